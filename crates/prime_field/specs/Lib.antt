@@ -1,0 +1,4 @@
+pub mod Prime
+pub mod Inverse
+pub mod Decimal
+pub mod Sign
