@@ -1,0 +1,4 @@
+pub mod Mono
+pub mod Order
+pub mod Stored
+pub mod Count

@@ -1,0 +1,49 @@
+-- How a monomial is stored: n exponents before zeros, and their sum.
+use Rattle.std.proofs.Common.{◌≡◌, ℕ, ◌-◌, ◌<◌, ◌≤◌, List, ◌++◌, length, take, replicate, get_or, All, ap, sym, ◌∙◌, ⊎_elim, arith}
+use Rattle.std.proofs.lemmas.Bool.{cases_lt}
+use Rattle.std.proofs.lemmas.List.{length-take-le, length-append, length-replicate, get_or_append_left, get_or-append_right, get_or-take, get_or-replicate, get_or_past, ext_get_or}
+use Rattle.local_order.specs.Mono.{degree}
+
+-- one to eight exponents of at most 1,000, then zeros, and the sum of the exponents
+pub record IsStored (exps : List ℕ) (n total : ℕ) : Type 0 where
+  pub full : length exps ≡ 8
+  pub some : 1 ≤ n
+  pub few : n ≤ 8
+  pub rest : (k : ℕ) → n ≤ k → get_or exps k 0 ≡ 0
+  pub small : All (λ e. e ≤ 1000) exps
+  pub total_is : degree (take n exps) ≡ total
+
+-- the number of exponents in front
+pub length_front : (exps : List ℕ) (n total : ℕ) → IsStored exps n total → length (take n exps) ≡ n
+length_front exps n total s = length-take-le n exps (omega (arith, s.full, s.few))
+
+-- a list of zeros has 0 at each place
+pub zero_at : (m k : ℕ) → let z : ℕ = 0 in get_or (replicate m z) k z ≡ z
+zero_at m k =
+    let z : ℕ = 0 in
+    ⊎_elim
+    (λ (l : k < m). get_or-replicate m k z z l)
+    (λ (l : m ≤ k). get_or_past (replicate m z) k z (omega (arith, length-replicate m z)))
+    (cases_lt k m)
+
+-- the front and zeros are what is stored
+pub front_and_zeros : (exps : List ℕ) (n total : ℕ) → IsStored exps n total → take n exps ++ replicate (8 - length (take n exps)) 0 ≡ exps
+front_and_zeros exps n total s =
+    ap (λ k. take n exps ++ replicate (8 - k) 0) (length_front exps n total s)
+    ∙ ext_get_or 0 (take n exps ++ zeros) exps long each
+  where
+    zeros : List ℕ
+    zeros = replicate (8 - n) 0
+
+    front : length (take n exps) ≡ n
+    front = length_front exps n total s
+
+    long : length (take n exps ++ zeros) ≡ length exps
+    long = let z : ℕ = 0 in omega (arith, length-append (take n exps) zeros, front, length-replicate (8 - n) z, s.full, s.few)
+
+    each : (k : ℕ) → k < length (take n exps ++ zeros) → get_or (take n exps ++ zeros) k 0 ≡ get_or exps k 0
+    each k i =
+        ⊎_elim
+        (λ (l : k < n). get_or_append_left (take n exps) zeros 0 k (omega (arith, front)) ∙ get_or-take n exps k 0 l)
+        (λ (l : n ≤ k). get_or-append_right (take n exps) zeros n k 0 front l ∙ zero_at (8 - n) (k - n) ∙ sym (s.rest k l))
+        (cases_lt k n)

@@ -1,0 +1,11 @@
+//! Monomials in one to eight variables, and the local order ds.
+#![tactic(auto)]
+
+mod compare;
+pub mod laws;
+mod mono;
+mod products;
+#[cfg(test)]
+mod tests;
+
+pub use mono::{MAX_EXPONENT, MAX_VARIABLES, Mono};
