@@ -1,0 +1,17 @@
+pub mod Coef
+pub mod Member
+pub mod Span
+pub mod Unique
+pub mod Canonical
+pub mod Cuts
+pub mod Ring
+pub mod Powers
+pub mod Closure
+pub mod Images
+pub mod Merging
+pub mod Scaling
+pub mod Derivatives
+pub mod Views
+pub mod Lists
+pub mod Distinct
+pub mod Examples

@@ -1,0 +1,5 @@
+pub mod Poly
+pub mod Canonical
+pub mod Ideal
+pub mod Span
+pub mod Letters
