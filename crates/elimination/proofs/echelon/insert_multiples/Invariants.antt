@@ -1,0 +1,5 @@
+use Rattle.elimination.specs.Echelon.{HasMultiples}
+use Rattle.elimination.proofs.echelon.insert_multiples.Given as goal
+
+abbrev pub invariant-loop-j : goal.invariant-loop-j
+invariant-loop-j l = HasMultiples l.problem l.monos l.k l.j l.rows

@@ -1,0 +1,5 @@
+pub mod Monomials
+pub mod Rows
+pub mod Pivots
+pub mod Echelon
+pub mod Places
