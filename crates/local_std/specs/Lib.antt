@@ -1,0 +1,9 @@
+pub mod Words
+pub mod Script
+pub mod FirstForm
+pub mod Reading
+pub mod Texts
+pub mod Answer
+pub mod Due
+pub mod View
+pub mod Number

@@ -1,0 +1,19 @@
+-- What the program's values stand for.
+use Rattle.std.specs.Prelude.{◌≡◌, ℕ, ◌⊎◌, List, take}
+use Rattle.std.specs.declared.option.Option.{Option}
+use Rattle.std.specs.Io.KnownBytes.{Appends}
+use Rattle.io_edge.specs.Faults.{Rose}
+use Rattle.local_std.specs.declared.outcome.Status.{Status}
+use Rattle.local_std.specs.declared.outcome.Status.TheVariants.{WriteFault}
+use Rattle.local_std.specs.declared.words.Request.{Request as Asked}
+use Rattle.local_std.specs.declared.words.Request.TheVariants.{Solve}
+use Rattle.local_std.specs.Words.{Request, solve}
+
+-- the text was written, or the sink failed in it
+abbrev pub Wrote : Status → List ℕ → Option (List ℕ) → Option (List ℕ) → ℕ → ℕ → Status → Type 0
+Wrote status text before now faults_before faults_now result =
+    ((result ≡ status) × Appends before now text)
+    ⊎ ((result ≡ WriteFault) × Rose faults_before faults_now × (n : ℕ) × Appends before now (take n text))
+
+abbrev pub request_in : Asked → Request
+request_in Solve = solve

@@ -1,0 +1,20 @@
+//! What the program `lstd` does: `run_lstd`, its top call, and the contract that says what it writes.
+//!
+//! `specs/Due.antt` says which status and which texts are due for which words and input, and `specs/Answer.antt`
+//! what answers a script, by the definitions of ideals alone.
+#![tactic(auto)]
+
+mod block;
+mod first_form;
+mod gate;
+mod outcome;
+mod text;
+mod top;
+mod words;
+
+pub use gate::{Gate, OpenGate};
+pub use outcome::Status;
+pub use top::run_lstd;
+
+#[cfg(test)]
+mod tests;
