@@ -5,7 +5,7 @@ pub returns-clause-product : goal.returns-clause-product
 returns-clause-product c = inverse-law
 
 pub returns-clause-residue : goal.returns-clause-residue
-returns-clause-residue c p a prime l n = inverse-residue p a prime
+returns-clause-residue c = inverse-residue
 
 pub returns-clause-only : goal.returns-clause-only
 returns-clause-only c = inverse-only
