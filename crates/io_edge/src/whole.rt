@@ -39,6 +39,7 @@ pub fn read_all<S: Source>(
     ensures few { IfOk result (λ bytes. length bytes.items ≤ limit) }
     // A fault comes only where it was counted.
     ensures later { S.faults source.old ≤ S.faults source.new }
+    ensures kept { OnOk result (S.faults source.new ≡ S.faults source.old) }
     ensures failed { IsErrOf result ReadAllError.Failed → Rose (S.faults source.old) (S.faults source.new) }
     // More bytes than the limit were given, or else not more.
     ensures too_long { IsErrOf result ReadAllError.TooLong →
@@ -70,6 +71,7 @@ pub fn write_all_counted<K: Sink>(sink: &mut K, text: &[u8]) -> Result<(), Faile
     ensures ok { OnOk result (Appends (K.written sink.old) (K.written sink.new) text.now) }
     ensures err { OnErr result ((n : ℕ) × (n ≤ length text.now) × Appends (K.written sink.old) (K.written sink.new) (take n text.now)) }
     ensures cause { HasCause (K.faults sink.old) (K.faults sink.new) result }
+    ensures kept { OnOk result (K.faults sink.new ≡ K.faults sink.old) }
 {
     let mut done = 0;
     while done < text.len() {
