@@ -16,7 +16,7 @@ returns-then-is_none c =
     let j = c.loop-j.j in
     let within : j < length rows = omega (arith, c.requires.pivots.full) in
     let none : HasNoneAt rows j = has_none_read rows j c.index-rows-j.result within c.index-rows-j.is (c.is_none.ensures ∙ ap not c.if-is_none.true) in
-    let top : degree (mono_at ms j) ≡ P.d = sym (ap degree (mono_read ms j c.index-monos-j.result c.loop-j-test.true c.index-monos-j.is)) ∙ sym c.degree.ensures.value ∙ c.if-degree-d.true ∙ c.d-d.ensures.value in
+    let top : degree (mono_at ms j) ≡ P.d = omega (arith, ap degree (mono_read ms j c.index-monos-j.result c.loop-j-test.true c.index-monos-j.is), c.degree.ensures.value, c.if-degree-d.true, c.d-d.ensures.value) in
     subst (λ m. IsFirstMissing P m) (sym (mono_read ms j c.index-monos-j.result c.loop-j-test.true c.index-monos-j.is))
     (first_missing_is P ms rows c.requires j c.loop-j-test.true top none c.loop-j.invariant)
 
@@ -30,7 +30,7 @@ loop-j-preserved c =
     let read = mono_read ms j c.index-monos-j.result c.loop-j-test.true c.index-monos-j.is in
     let here : degree (mono_at ms j) ≡ P.d → HasRowAt rows j = λ e. elim c.else-degree-d.branch [
       | else-degree-d-via-then-degree-d+else-is_none w ↦ has_row_read rows j w.index-rows-j.result within w.index-rows-j.is (w.is_none.ensures ∙ ap not w.if-is_none.false)
-      | else-degree-d-via-else-degree-d w ↦ absurd (w.if-degree-d.false (c.degree.ensures.value ∙ ap degree read ∙ e ∙ sym c.d-d.ensures.value))
+      | else-degree-d-via-else-degree-d w ↦ absurd (omega (arith, w.if-degree-d.false, c.degree.ensures.value, ap degree read, e, c.d-d.ensures.value))
     ] in
     before_more (λ i. degree (mono_at ms i) ≡ P.d → HasRowAt rows i) j c.loop-j.invariant here
 
