@@ -15,7 +15,8 @@ use Rattle.elimination.specs.Rows.{mono_at, polynomial_of, HasCoefficients}
 use Rattle.elimination.specs.Pivots.{Rows, row_at, combined, ArePivots, IsCombination, IsMadeOf, Joins}
 use Rattle.elimination.specs.Echelon.{HasMultiples, AreMembers, Covers, generator}
 use Rattle.elimination.proofs.Coefficients.{polys_of, all_full, total-linear, total-polynomial_of, agree_at, listed}
-use Rattle.elimination.proofs.Members.{multiple_in, IsInIdeal-scale, linear_in}
+use Rattle.elimination.proofs.Members.{multiple_in, linear_in}
+use Rattle.sparse_poly.proofs.Closure.{IsInIdeal-scale}
 
 -- ---- no rows
 -- where no place has a row, there is none

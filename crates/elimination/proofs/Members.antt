@@ -1,13 +1,12 @@
 -- Members of the ideal: the multiples of its generators by monomials, and combinations of members.
 -- A multiple has its monomial as one cofactor and 0 as the others; the rest is that of `Member` with constants.
 use Rattle.std.proofs.Common.{◌≡◌, ℕ, zero, suc, ◌%◌, ◌<◌, List, [], ◌∷◌, ◌++◌, length, get_or, Some, None, refl, ap, sym, ◌∙◌, arith}
-use Rattle.prime_field.proofs.Residue.{mul_same}
 use Rattle.sparse_poly.specs.Poly.{Poly, total, IsIn, term_times, combination}
 use Rattle.sparse_poly.specs.Ideal.{Problem, IsInIdeal}
 use Rattle.sparse_poly.proofs.Coef.{total-append}
-use Rattle.sparse_poly.proofs.Member.{agree, cut_same, combination-none, combination-term_times, IsInIdeal-zero, IsInIdeal-add}
-use Rattle.sparse_poly.proofs.Scaling.{in-scale}
-use Rattle.sparse_poly.proofs.Span.{scale, linear, total-scale}
+use Rattle.sparse_poly.proofs.Member.{cut_same, combination-none, IsInIdeal-zero, IsInIdeal-add}
+use Rattle.sparse_poly.proofs.Closure.{IsInIdeal-scale}
+use Rattle.sparse_poly.proofs.Span.{scale, linear}
 use Rattle.elimination.specs.Rows.{polynomial_of}
 use Rattle.elimination.specs.Pivots.{Rows}
 use Rattle.elimination.specs.Echelon.{generator, AreMembers}
@@ -41,19 +40,6 @@ multiple_in P k a l e = record {
   cofactor = cofactor_of a k;
   in_ring = λ i. in_ring P.n a k i e;
   equation = cut_same P (term_times 1 a (generator P k)) (combination (cofactor_of a k) P.gens) (λ m ml low. ap (λ x. x % P.p) (sym (only_one a k P.gens m l)));
-}
-
--- a multiple of a member by a constant is a member
-pub IsInIdeal-scale : (P : Problem) (c : ℕ) (f : Poly) → IsInIdeal P f → IsInIdeal P (scale c f)
-IsInIdeal-scale P c f h = record {
-  cofactor = λ j. scale c (h.cofactor j);
-  in_ring = λ j. in-scale P.n c (h.cofactor j) (h.in_ring j);
-  equation =
-      cut_same P (scale c f) (combination (λ j. scale c (h.cofactor j)) P.gens)
-      (λ m l low.
-      ap (λ x. x % P.p) (total-scale c f m)
-      ∙ mul_same P.p c c (total f m) (total (combination h.cofactor P.gens) m) refl (agree P f (combination h.cofactor P.gens) h.equation m l low)
-      ∙ ap (λ x. x % P.p) (sym (ap (λ q. total q m) (combination-term_times c [] h.cofactor P.gens) ∙ total-scale c (combination h.cofactor P.gens) m)));
 }
 
 -- a combination of rows of members

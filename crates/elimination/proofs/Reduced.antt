@@ -20,7 +20,8 @@ use Rattle.elimination.specs.Places.{IsMemberAt}
 use Rattle.elimination.proofs.Falling.{place_cases}
 use Rattle.elimination.proofs.Coefficients.{polys_of, total-linear, total-polynomial_of, total-polynomial_of_off, agree_at, listed}
 use Rattle.elimination.proofs.Generators.{two_up}
-use Rattle.elimination.proofs.Members.{IsInIdeal-scale, linear_in}
+use Rattle.elimination.proofs.Members.{linear_in}
+use Rattle.sparse_poly.proofs.Closure.{IsInIdeal-scale}
 use Rattle.elimination.proofs.Leads.{HasRow, rows_full, monic_row, row_of_ideal}
 
 -- the first monomial of a canonical polynomial is its lead

@@ -1,16 +1,18 @@
 -- The ideal has its generators and the multiples of its members by polynomials, and is the span of monomial multiples.
 -- Cofactors may be taken canonical, since products see factors up to equal coefficients only.
-use Rattle.std.proofs.Common.{◌≡◌, ℕ, zero, suc, ◌+◌, ◌*◌, ◌%◌, ◌<◌, ◌≤◌, List, [], ◌∷◌, length, get_or, All, Contains, refl, ap, sym, ◌∙◌, subst, arith}
+use Rattle.std.proofs.Common.{◌≡◌, ℕ, zero, suc, ◌+◌, ◌%◌, ◌<◌, ◌≤◌, List, [], ◌∷◌, length, get_or, All, Contains, refl, ap, sym, ◌∙◌, subst, arith}
 use Rattle.std.proofs.lemmas.List.Elements.{All-head, All-tail}
-use Rattle.local_order.specs.Mono.{degree, mono_one}
+use Rattle.prime_field.proofs.Residue.{mul_same}
+use Rattle.local_order.specs.Mono.{degree}
 use Rattle.sparse_poly.specs.Poly.{Poly, total, IsIn, IsCanonical, term_times, times, one, combination}
 use Rattle.sparse_poly.specs.Canonical.{canonical}
 use Rattle.sparse_poly.specs.Ideal.{Problem, IsInIdeal, HasCanonicalCofactors}
 use Rattle.sparse_poly.specs.Span.{scale, linear, Span, Agree, IsMultiple, AreMultiples}
 use Rattle.sparse_poly.proofs.Canonical.{IsCanonical-canonical, coef-canonical}
-use Rattle.sparse_poly.proofs.Coef.{total-append, term_cons}
-use Rattle.sparse_poly.proofs.Member.{agree, cut_same, agree-append, AllIn, in-term_times, combination-none, IsInIdeal-zero, IsInIdeal-add, IsInIdeal-term_times, IsInIdeal-agree}
-use Rattle.sparse_poly.proofs.Ring.{times-one, in-one, agree-times, term_times-one}
+use Rattle.sparse_poly.proofs.Coef.{total-append}
+use Rattle.sparse_poly.proofs.Member.{agree, cut_same, agree-append, AllIn, combination-none, combination-term_times, IsInIdeal-zero, IsInIdeal-add, IsInIdeal-term_times, IsInIdeal-agree}
+use Rattle.sparse_poly.proofs.Ring.{times-one, in-one, agree-times}
+use Rattle.sparse_poly.proofs.Scaling.{in-scale}
 use Rattle.sparse_poly.proofs.Span.{AllMultiples, span_of_in, span-here, span-weaken, total-scale}
 use Rattle.sparse_poly.proofs.Unique.{in_of_canonical}
 
@@ -60,18 +62,18 @@ IsInIdeal-times P [] f gens i j h = IsInIdeal-zero P
 IsInIdeal-times P (t ∷ q) f gens i j h =
     IsInIdeal-add P (term_times t.coef t.mono f) (times q f) (IsInIdeal-term_times P t.coef t.mono f gens i.0 j h) (IsInIdeal-times P q f gens i.1 j h)
 
--- and by a constant
-pub IsInIdeal-scale : (P : Problem) (c : ℕ) (f : Poly) → AllIn P.n P.gens → IsIn P.n f → IsInIdeal P f → IsInIdeal P (scale c f)
-IsInIdeal-scale P c f gens j h =
-    IsInIdeal-agree P (term_times c (mono_one P.n) f) (scale c f) (λ m l low. ap (λ x. x % P.p) (total-scale c f m ∙ sym (total-constant m)))
-    (IsInIdeal-term_times P c (mono_one P.n) f gens (in-one P.n).0 j h)
-  where
-    constants : (f : Poly) → IsIn P.n f → term_times c (mono_one P.n) f ≡ scale c (term_times 1 (mono_one P.n) f)
-    constants [] i = refl
-    constants (t ∷ f) i = term_cons _ _ _ _ _ _ refl (let q : c * t.coef ≡ c * (1 * t.coef) = omega arith in q) (constants f i.1)
-
-    total-constant : (m : List ℕ) → total (term_times c (mono_one P.n) f) m ≡ c * total f m
-    total-constant m = ap (λ g. total g m) (constants f j ∙ ap (scale c) (term_times-one P.n f j)) ∙ total-scale c f m
+-- and by a constant: the cofactors are multiplied by it
+pub IsInIdeal-scale : (P : Problem) (c : ℕ) (f : Poly) → IsInIdeal P f → IsInIdeal P (scale c f)
+IsInIdeal-scale P c f h = record {
+  cofactor = λ j. scale c (h.cofactor j);
+  in_ring = λ j. in-scale P.n c (h.cofactor j) (h.in_ring j);
+  equation =
+      cut_same P (scale c f) (combination (λ j. scale c (h.cofactor j)) P.gens)
+      (λ m l low.
+      ap (λ x. x % P.p) (total-scale c f m)
+      ∙ mul_same P.p c c (total f m) (total (combination h.cofactor P.gens) m) refl (agree P f (combination h.cofactor P.gens) h.equation m l low)
+      ∙ ap (λ x. x % P.p) (sym (ap (λ q. total q m) (combination-term_times c [] h.cofactor P.gens) ∙ total-scale c (combination h.cofactor P.gens) m)));
+}
 
 -- ---- the span of the monomial multiples
 -- a member of a list of polynomials in n variables is in n variables
@@ -110,7 +112,7 @@ linear-member P c (r ∷ rows) gens h =
     member (f, a, there, l, e) =
         let i : IsIn P.n f = in_of_contains P.n P.gens f there.0 gens there.1 there.2 in
         subst (λ s. IsInIdeal P (scale (c 0) s)) (sym e)
-        (IsInIdeal-scale P (c 0) (term_times 1 a f) gens (in-term_times P.n 1 a f l i)
+        (IsInIdeal-scale P (c 0) (term_times 1 a f)
         (IsInIdeal-term_times P 1 a f gens l i (IsInIdeal-generator P f gens there)))
 
 -- and what they span is in it

@@ -1,6 +1,6 @@
 //! Lists of polynomials.
 
-ghost use Rattle.std.specs.Prelude.{◌≡◌, ◌<◌, [], ◌∷◌, ◌++◌, length, OnOk, OnErr, slice_get, Some};
+ghost use Rattle.std.specs.Prelude.{◌≡◌, ◌<◌, [], ◌∷◌, ◌++◌, length, IfOk, OnOk, OnErr, slice_get, Some};
 
 use crate::poly::Poly;
 use std::alloc::{AllocError, Global};
@@ -67,5 +67,16 @@ impl Polys {
     {
         self.items.push(f)?;
         Ok(())
+    }
+
+    /// A copy.
+    pub fn copy(&self, alloc: Global) -> Result<Polys, AllocError>
+        ensures { IfOk result (λ l. l ≡ self.now) }
+    {
+        let mut items = Vec::with_capacity(alloc, self.items.len())?;
+        for f in &self.items {
+            items.push(f.copy(alloc)?)?;
+        }
+        Ok(Polys { items })
     }
 }

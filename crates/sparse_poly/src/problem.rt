@@ -1,11 +1,12 @@
 //! Problems: generators of an ideal, to be taken modulo a degree.
 
-ghost use Rattle.std.specs.Prelude.{◌≡◌, map, All};
+ghost use Rattle.std.specs.Prelude.{◌≡◌, map, All, IfOk};
 ghost use Rattle.sparse_poly.specs.Poly.{in_variables};
 ghost use Rattle.sparse_poly.specs.Ideal.{IsProblem};
 
 use crate::polys::Polys;
 use prime_field::Field;
+use std::alloc::{AllocError, Global};
 use std::marker::Model;
 
 /// Generators of an ideal in a ring of polynomials, and the degree beyond which everything is cut.
@@ -70,5 +71,18 @@ impl Problem {
         ensures problem { IsProblem self.now }
     {
         &self.gens
+    }
+
+    /// A copy.
+    pub fn copy(&self, alloc: Global) -> Result<Problem, AllocError>
+        ensures { IfOk result (λ p. p ≡ self.now) }
+    {
+        let gens = self.gens.copy(alloc)?;
+        Ok(Problem {
+            field: self.field,
+            n: self.n,
+            d: self.d,
+            gens,
+        })
     }
 }

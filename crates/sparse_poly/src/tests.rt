@@ -142,8 +142,9 @@ fn lists(rt: HostRuntime) -> Result<(), Fail> {
     list.push(poly(alloc, &five, &[([1, 0], 1)])?)?;
     list.push(Poly::zero(alloc, 2))?;
     let list = Polys::from_vec(list.into_vec());
-    assert_eq!(rt; list.len(), 2);
-    assert!(rt; list.get(1).is_zero());
+    let copy = list.copy(alloc)?;
+    assert_eq!(rt; (list.len(), copy.len()), (2, 2));
+    assert!(rt; list.get(1).is_zero() && copy.get(1).is_zero());
     Ok(())
 }
 
@@ -161,6 +162,8 @@ fn problems(rt: HostRuntime) -> Result<(), Fail> {
     );
     assert!(rt; problem.gens().len() == 1);
     assert!(rt; has_terms(problem.gens().get(0), &[([1, 0], 1)]));
+    let copy = problem.copy(alloc)?;
+    assert_eq!(rt; (copy.field().prime(), copy.n(), copy.d()), (5, 2, 4));
     Ok(())
 }
 
