@@ -1,4 +1,5 @@
-use Rattle.std.proofs.Common.{sym, ◌∙◌, ap, arith, ◌<◌, length}
+use Rattle.std.proofs.Common.{sym, ◌∙◌, ap, arith, ◌<◌, ◌*◌, ◌%◌, length}
+use Rattle.std.proofs.Math.Path.{ap₂}
 use Rattle.sparse_poly.specs.Poly.{derivative}
 use Rattle.sparse_poly.specs.Canonical.{canonical}
 use Rattle.sparse_poly.proofs.Images.{images-all, term_at}
@@ -29,7 +30,7 @@ loop-term-preserved c =
     elim c.match-quotient.branch [
       | in-Some+in_ok-push_term w ↦ ap (λ v. v.items) w.terms-is
           ∙ derivative-some _ _ _ _ _ _ _ c.term-item.result _ _ w.exp.result _ own within c.loop-term-test.true c.term-item.is c.loop-term.invariant
-          c.variable-divisor.ensures w.in-Some.ensures.value w.exp.ensures.value (cc (w.mul.ensures.value, w.from-exponent.ensures, c.prime-prime.ensures.value)) w.in_ok-push_term.ensures
+          c.variable-divisor.ensures w.in-Some.ensures.value w.exp.ensures.value (omega (arith, w.mul.ensures.value, ap₂ (λ e p. (c.term-item.result.coef * (e % p)) % c.args.field.now) w.from-exponent.ensures c.prime-prime.ensures.value)) w.in_ok-push_term.ensures
       | in_default w ↦ ap (λ v. v.items) w.terms-is
           ∙ derivative-none _ _ _ _ _ _ c.term-item.result _ own within c.loop-term-test.true c.term-item.is c.loop-term.invariant
           c.variable-divisor.ensures (λ d. let e = w.in_default.ensures.some.1 d in cc)
