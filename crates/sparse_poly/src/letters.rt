@@ -53,6 +53,13 @@ impl Letters {
         self.count
     }
 
+    /// The bytes of the letters, that of the first variable first.
+    pub fn bytes(&self) -> &[u8]
+        ensures { result.now ≡ self.now }
+    {
+        &self.bytes[..self.count]
+    }
+
     /// The letter at a place, that of the first variable being at 0.
     pub fn get(&self, i: usize) -> u8
         requires { i < length self.now }
