@@ -1,0 +1,107 @@
+-- Worked scripts: reading computes, so each of these holds as it stands.
+use Rattle.std.proofs.Common.{◌≡◌, ℕ, List, ◌++◌, Some, None, Result, refl}
+use Rattle.std.specs.Prelude.{codes}
+use Rattle.std.specs.List.{repeat}
+use Rattle.script_grammar.specs.declared.refusal.ReadKind.TheVariants.{BadByte, EndOfInput, MissingNoether, TooManyCommands, Expected, NotAPrime, TooManyVariables, NameClash, UnknownName, ExponentTooLarge, ZeroDivisor, TooDeep, NoetherDegree, TooManyMonomials, TooManyGenerators}
+use Rattle.script_grammar.specs.declared.refusal.What.TheVariants as whats
+use Rattle.script_grammar.specs.declared.refusal.Refusal.{Refusal}
+use Rattle.script_grammar.specs.Tokens.{skip, word_len, text_len, front, next}
+use Rattle.script_grammar.specs.Trees.{Tree}
+use Rattle.script_grammar.specs.Steps.{mark_at, word_at, numeral_at, exponent_at}
+use Rattle.script_grammar.specs.Expressions.{below_at, fraction_at, word_operand_at, operand_at, takes_exponent, power_at, times_at, term_at, more_at, first_at, sum_at, inner_at, expression_at}
+use Rattle.script_grammar.specs.Statements.{remark_at, remarks_at, ring_name_at, prime_at, variable_at, variables_at, letters_at, ring_at, factor_at, factors_at, noether_at, new_name_at, name_among, argument_at, poly_at, member_at, members_at, ideal_at, command_at}
+use Rattle.script_grammar.specs.Script.{statement_at, statements_at, tree_at, script_of}
+use Rattle.script_grammar.specs.Outcome.{outcome}
+
+-- all that reading computes by
+reads : List ℕ → Result Tree Refusal
+unfolding skip word_len text_len front next mark_at word_at numeral_at exponent_at below_at fraction_at word_operand_at operand_at takes_exponent power_at times_at term_at more_at first_at sum_at inner_at expression_at remark_at remarks_at ring_name_at prime_at variable_at variables_at letters_at ring_at factor_at factors_at noether_at new_name_at name_among argument_at poly_at member_at members_at ideal_at command_at statement_at statements_at tree_at script_of
+reads bytes = script_of bytes
+
+pub blanks_and_comments : outcome (codes "option(redSB); LIB \"sing.lib\"; // hi\nring x2=007 , x , ds ;/**/noether=x*x^2*x3;\nideal i=x;std(i);") ≡ None
+unfolding reads
+blanks_and_comments = refl
+
+pub zero_divisor_of_characteristic_two : outcome (codes "ring r=2,(x,y),ds;\nnoether=x^5;\npoly f=1/2;\n") ≡ Some ((3, 10), ZeroDivisor)
+unfolding reads
+zero_divisor_of_characteristic_two = refl
+
+pub characteristic_that_is_no_prime : outcome (codes "ring r=32002,(x,y),ds;\n") ≡ Some ((1, 8), NotAPrime)
+unfolding reads
+characteristic_that_is_no_prime = refl
+
+pub variable_twice : outcome (codes "ring r=5,(x,x)") ≡ Some ((1, 13), NameClash)
+unfolding reads
+variable_twice = refl
+
+pub ninth_variable : outcome (codes "ring r=5,(a,b,c,d,e,f,g,h,i)") ≡ Some ((1, 27), TooManyVariables)
+unfolding reads
+ninth_variable = refl
+
+pub ideal_before_noether : outcome (codes "ring r=32003,(x,y),ds;\nideal i=x;") ≡ Some ((2, 1), MissingNoether)
+unfolding reads
+ideal_before_noether = refl
+
+pub noether_degree_above_255 : outcome (codes "ring r=32003,(x,y),ds;\nnoether=x200y200;") ≡ Some ((2, 9), NoetherDegree)
+unfolding reads
+noether_degree_above_255 = refl
+
+pub too_many_monomials : outcome (codes "ring r=32003,(x,y),ds;\nnoether=x^90;") ≡ Some ((2, 9), TooManyMonomials 4186)
+unfolding reads
+too_many_monomials = refl
+
+pub name_like_a_monomial : outcome (codes "ring r=32003,(x,y),ds;\nnoether=x^5;\npoly xy=x;") ≡ Some ((3, 6), NameClash)
+unfolding reads
+name_like_a_monomial = refl
+
+pub exponent_behind_two_factors : outcome (codes "ring r=32003,(x,y),ds;\nnoether=x^5;\npoly f=2x^3;") ≡ Some ((3, 10), Expected whats.Operator)
+unfolding reads
+exponent_behind_two_factors = refl
+
+pub unknown_letter_before_a_large_exponent : outcome (codes "ring r=32003,(x,y),ds;\nnoether=x^5;\npoly f=x1001w;") ≡ Some ((3, 8), UnknownName)
+unfolding reads
+unknown_letter_before_a_large_exponent = refl
+
+pub large_exponent : outcome (codes "ring r=32003,(x,y),ds;\nnoether=x^5;\npoly f=5x1001;") ≡ Some ((3, 8), ExponentTooLarge)
+unfolding reads
+large_exponent = refl
+
+pub command_on_ideals_of_a_polynomial : outcome (codes "ring r=32003,(x,y),ds;\nnoether=x^5;\npoly f=x;vdim(f);") ≡ Some ((3, 15), UnknownName)
+unfolding reads
+command_on_ideals_of_a_polynomial = refl
+
+pub parentheses_32 : outcome (codes "ring r=32003,(x,y),ds;\nnoether=x^5;\npoly f=" ++ (repeat 32 (codes "(") ++ (codes "x" ++ (repeat 32 (codes ")") ++ codes ";milnor(f);")))) ≡ None
+unfolding reads
+parentheses_32 = refl
+
+pub parenthesis_33 : outcome (codes "ring r=32003,(x,y),ds;\nnoether=x^5;\npoly f=" ++ (repeat 33 (codes "(") ++ codes "x")) ≡ Some ((3, 40), TooDeep)
+unfolding reads
+parenthesis_33 = refl
+
+pub generator_65 : outcome (codes "ring r=32003,(x,y),ds;\nnoether=x^5;\npoly f=x;ideal i=" ++ (repeat 64 (codes "x,") ++ codes "x")) ≡ Some ((3, 146), TooManyGenerators)
+unfolding reads
+generator_65 = refl
+
+pub derivatives_above_64 : outcome (codes "ring r=32003,(x,y),ds;\nnoether=x^5;\npoly f=x;ideal i=" ++ (repeat 63 (codes "x,") ++ codes "jacob(f);std(i);")) ≡ Some ((3, 144), TooManyGenerators)
+unfolding reads
+derivatives_above_64 = refl
+
+pub commands_64 : outcome (codes "ring r=32003,(x,y),ds;\nnoether=x^5;\nideal i=x;" ++ repeat 64 (codes "std(i);")) ≡ None
+unfolding reads
+commands_64 = refl
+
+pub command_65 : outcome (codes "ring r=32003,(x,y),ds;\nnoether=x^5;\nideal i=x;" ++ repeat 65 (codes "std(i);")) ≡ Some ((3, 459), TooManyCommands)
+unfolding reads
+command_65 = refl
+
+pub byte_of_no_token : outcome (codes "ring r=32003,(x,y),ds;\nnoether=x^5;\npoly f=_;") ≡ Some ((3, 8), BadByte)
+unfolding reads
+byte_of_no_token = refl
+
+pub string_that_is_not_closed : outcome (codes "ring r=32003,(x,y),ds;\nnoether=x^5;\npoly f=\"a") ≡ Some ((3, 10), EndOfInput)
+unfolding reads
+string_that_is_not_closed = refl
+
+pub comment_in_place_of_a_numeral : outcome (codes "ring r=32003,(x,y),ds;\nnoether=x^5;\npoly f=1//2;") ≡ Some ((3, 13), EndOfInput)
+unfolding reads
+comment_in_place_of_a_numeral = refl

@@ -1,0 +1,15 @@
+pub mod Tokens
+pub mod Words
+pub mod Trees
+pub mod Steps
+pub mod Expressions
+pub mod Statements
+pub mod Script
+pub mod Valid
+pub mod Meaning
+pub mod Spelling
+pub mod Places
+pub mod Ends
+pub mod Formed
+pub mod First
+pub mod Outcome
