@@ -1,0 +1,3 @@
+pub mod TokenView
+pub mod PlaceView
+pub mod Reads
