@@ -1,0 +1,15 @@
+pub mod Constants
+pub mod Loops
+pub mod Exponents
+pub mod Operands
+pub mod Handed
+pub mod Table
+pub mod Variables
+pub mod Monomials
+pub mod Remarks
+pub mod Generators
+pub mod Statements
+pub mod Scripts
+pub mod Parts
+pub mod Asked
+pub mod Degrees

@@ -1,0 +1,14 @@
+pub mod Sound
+pub mod NamesView
+pub mod Gives
+pub mod Constant
+pub mod RingView
+pub mod Listed
+pub mod Monomial
+pub mod Effects
+pub mod After
+pub mod Parts
+pub mod Behind
+pub mod Gens
+pub mod Answers
+pub mod Coherent

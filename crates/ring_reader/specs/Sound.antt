@@ -1,0 +1,41 @@
+-- Which values belong to a ring and its noether degree.
+use Rattle.std.specs.Prelude.{◌≡◌, ℕ, ◌+◌, ◌≤◌, length, All}
+use Rattle.prime_field.specs.Prime.{InTable}
+use Rattle.local_order.specs.Count.{monomial_count}
+use Rattle.sparse_poly.specs.Letters.{AreLetters}
+use Rattle.sparse_poly.specs.Poly.{Polynomial, IsCanonical, HasDegreeAtMost}
+use Rattle.ring_reader.specs.declared.names.NamedPoly.{NamedPoly}
+use Rattle.ring_reader.specs.declared.names.NamedIdeal.{NamedIdeal}
+use Rattle.ring_reader.specs.declared.names.Names.{Names}
+use Rattle.ring_reader.specs.declared.effect.Effect.{Effect}
+use Rattle.ring_reader.specs.declared.effect.Effect.TheVariants as effects
+use Rattle.ring_reader.specs.Coherent.{IsCommandIn}
+
+-- a polynomial of the ring
+pub record IsValue (p n : ℕ) (f : Polynomial) : Type 0 where
+  pub variables : f.n ≡ n
+  pub canonical : IsCanonical p n f.terms
+
+-- a generator, cut beyond degree d
+pub record IsGenerator (p n d : ℕ) (f : Polynomial) : Type 0 where
+  pub variables : f.n ≡ n
+  pub canonical : IsCanonical p n f.terms
+  pub low : HasDegreeAtMost d f.terms
+
+-- the ring and the degree are within the limits, and the values belong to them
+pub record IsSound (names : Names) : Type 0 where
+  pub prime : InTable names.field
+  pub letters : AreLetters names.letters
+  pub some : 1 ≤ names.d
+  pub low : names.d ≤ 255
+  pub few : monomial_count (length names.letters) names.d ≤ 4096
+  pub polys : All (λ (f : NamedPoly). IsValue names.field (length names.letters) f.value) names.polys.now
+  pub polys_low : All (λ (f : NamedPoly). HasDegreeAtMost (names.d + 1) f.value.terms) names.polys.now
+  pub ideals : All (λ (i : NamedIdeal). All (IsGenerator names.field (length names.letters) names.d) i.gens) names.ideals.now
+
+-- what a statement declares or asks belongs to the ring and the degree
+abbrev pub IsSoundEffect : ℕ → ℕ → ℕ → Effect → Type 0
+IsSoundEffect p n d effects.Nothing = Unit {0}
+IsSoundEffect p n d (effects.Poly f) = IsValue p n f.value × HasDegreeAtMost (d + 1) f.value.terms
+IsSoundEffect p n d (effects.Ideal i) = All (IsGenerator p n d) i.gens
+IsSoundEffect p n d (effects.Command c) = IsCommandIn p n d c

@@ -1,0 +1,97 @@
+//! The noether statement.
+
+ghost use Rattle.std.specs.Prelude.{◌≡◌, ◌≤◌, ◌<◌, ◌+◌, min, length, IfOk};
+ghost use Rattle.local_order.specs.Count.{monomial_count as number_of_monomials};
+ghost use Rattle.sparse_poly.specs.Letters.{AreLetters};
+ghost use Rattle.script_tokens.specs.PlaceView.{place_of};
+ghost use Rattle.script_tokens.specs.Reads.{Reads};
+ghost use Rattle.script_grammar.specs.Statements.{factor_at, factor_degree, degree_of, noether_at};
+ghost use Rattle.ring_reader.specs.Gives.{meant};
+ghost use Rattle.ring_reader.specs.Monomial.{monomial_at, capped};
+
+use script_grammar::{ReadKind, Refusal, What};
+use script_tokens::{
+    Place, behind, degree_within, exponent, has_large, is_mark, is_short, mark, name, refused,
+};
+use sparse_poly::Letters;
+
+/// The greatest noether degree.
+const MAX_DEGREE: u32 = 255;
+
+/// The greatest number of monomials of at most the noether degree.
+const MAX_MONOMIALS: u64 = 4096;
+
+/// A factor of the noether monomial, by its degree, which is 256 where it is more.
+#[tactic(auto, unfolding(script_grammar::specs::Statements::factor_at))]
+fn factor<'a>(letters: &Letters, here: Place<'a>) -> Result<(u32, Place<'a>), Refusal>
+    ensures reads { Reads (λ x. (x.0, place_of x.1)) result (meant (λ f. capped (factor_degree f)) (factor_at letters.now (place_of here.entry))) }
+    ensures low { IfOk result (λ x. x.0 ≤ 256) }
+    ensures shorter { IfOk result (λ x. x.1.left < here.entry.left) }
+{
+    let Some(word) = name(here) else {
+        return Err(refused(here, ReadKind::Expected(What::Monomial)));
+    };
+    if !is_short(letters.bytes(), word) {
+        return Err(refused(here, ReadKind::UnknownName));
+    }
+    if has_large(word) {
+        return Err(refused(here, ReadKind::ExponentTooLarge));
+    }
+    let after = behind(here);
+    if word.len() == 1 && is_mark(after, b'^') {
+        let (n, after) = exponent(behind(after))?;
+        return Ok((n.min(MAX_DEGREE + 1), after));
+    }
+    Ok((degree_within(MAX_DEGREE, word), after))
+}
+
+/// The noether monomial, by its degree, which is 256 where it is more.
+fn monomial<'a>(letters: &Letters, here: Place<'a>) -> Result<(u32, Place<'a>), Refusal>
+    ensures reads { Reads (λ x. (x.0, place_of x.1)) result (meant (λ m. capped (degree_of m)) (monomial_at letters.now (place_of here.entry))) }
+    ensures low { IfOk result (λ x. x.0 ≤ 256) }
+    ensures shorter { IfOk result (λ x. x.1.left < here.entry.left) }
+{
+    let (mut degree, mut after) = factor(letters, here)?;
+    while is_mark(after, b'*') {
+        let (more, next) = factor(letters, behind(after))?;
+        degree = (degree + more).min(MAX_DEGREE + 1);
+        after = next;
+    }
+    Ok((degree, after))
+}
+
+/// How many monomials in `n` variables have degree at most `d`.
+fn monomial_count(n: u32, d: u32) -> u64
+    requires few { n ≤ 8 }
+    requires low { d ≤ 255 }
+    ensures { result ≡ number_of_monomials n d }
+{
+    let mut count: u128 = 1;
+    for k in 0..n {
+        count = count * u128::from(d + k + 1) / u128::from(k + 1);
+    }
+    count as u64
+}
+
+/// The noether degree, from behind the word `noether` on. It is tested before what stands behind the monomial.
+#[tactic(auto, unfolding(script_grammar::specs::Statements::noether_at))]
+pub(crate) fn noether<'a>(letters: &Letters, here: Place<'a>) -> Result<(u32, Place<'a>), Refusal>
+    requires letters { AreLetters letters.now }
+    ensures reads { Reads (λ x. (x.0, place_of x.1)) result (meant degree_of (noether_at letters.now (place_of here.entry))) }
+    ensures some { IfOk result (λ x. 1 ≤ x.0) }
+    ensures low { IfOk result (λ x. x.0 ≤ 255) }
+    ensures few { IfOk result (λ x. number_of_monomials (length letters.now) x.0 ≤ 4096) }
+    ensures shorter { IfOk result (λ x. x.1.left < here.entry.left) }
+{
+    let start = mark(here, b'=', What::Equals)?;
+    let (degree, after) = monomial(letters, start)?;
+    if degree == 0 || degree > MAX_DEGREE {
+        return Err(refused(start, ReadKind::NoetherDegree));
+    }
+    let count = monomial_count(letters.len() as u32, degree);
+    if count > MAX_MONOMIALS {
+        return Err(refused(start, ReadKind::TooManyMonomials(count)));
+    }
+    let after = mark(after, b';', What::Operator)?;
+    Ok((degree, after))
+}

@@ -1,0 +1,191 @@
+//! Whole scripts.
+
+ghost use Rattle.std.specs.Prelude.{◌≡◌, ◌<◌, ◌≤◌, ◌&&◌, nat_le, length, All, IfOk, Ok};
+ghost use Rattle.prime_field.specs.Prime.{InTable};
+ghost use Rattle.local_order.specs.Count.{monomial_count};
+ghost use Rattle.sparse_poly.specs.Letters.{AreLetters};
+ghost use Rattle.script_tokens.specs.PlaceView.{place_of};
+ghost use Rattle.script_tokens.specs.TokenView.{token_of};
+ghost use Rattle.script_tokens.specs.Reads.{Reads};
+ghost use Rattle.script_grammar.specs.Words.{is_the_end};
+ghost use Rattle.script_grammar.specs.Trees.{Tree};
+ghost use Rattle.script_grammar.specs.Script.{position_from};
+ghost use Rattle.script_grammar.specs.Valid.{IsScript};
+ghost use Rattle.script_grammar.specs.Meaning.{meaning};
+ghost use Rattle.ring_reader.specs.Answers.{Answers, asked_by};
+ghost use Rattle.ring_reader.specs.Coherent.{IsCoherent, IsCommandIn};
+ghost use Rattle.ring_reader.specs.Gives.{Gives};
+ghost use Rattle.ring_reader.specs.Parts.{noether_part, script_parts, statements_part};
+ghost use Rattle.ring_reader.specs.RingView.{ring_of};
+
+use crate::error::ReadError;
+use crate::names::Names;
+use crate::noether::noether;
+use crate::remark::remarks;
+use crate::ring::{Ring, ring_statement};
+use crate::scope::Scope;
+use crate::statement::{begins_statement, statement};
+use crate::stop::Stop;
+use prime_field::Field;
+use script_grammar::{Command, Commands, ReadKind, Refusal, Script, What};
+use script_tokens::{Place, Token, behind, is_word, next_token, refused};
+use sparse_poly::Letters;
+use std::alloc::Global;
+
+/// Whether the script is over: only behind a command may the end come.
+fn is_over(count: usize, here: Place) -> bool
+    ensures { result ≡ (nat_le 1 count && is_the_end (token_of here.entry.token)) }
+{
+    count >= 1 && matches!(here.token, Token::End)
+}
+
+/// The commands of the statements up to the end.
+fn statements(
+    alloc: Global,
+    ring: &Ring<'_>,
+    d: u32,
+    start: Place<'_>,
+) -> Result<Vec<Command>, Stop>
+    requires offered { InTable ring.now.prime }
+    requires letters { AreLetters ring.now.letters.items }
+    requires some { 1 ≤ d }
+    requires low { d ≤ 255 }
+    requires few { monomial_count (length ring.now.letters.items) d ≤ 4096 }
+    ensures gives { Gives (λ v. v.items) result (statements_part (ring_of ring.now) d (place_of start.entry)) }
+    ensures asked { IfOk result (λ v. 1 ≤ length v.items) }
+    ensures few { IfOk result (λ v. length v.items ≤ 64) }
+    ensures belong { IfOk result (λ v. All (IsCommandIn ring.now.prime (length ring.now.letters.items) d) v.items) }
+{
+    let field = field_of(ring.prime);
+    let letters = letters_of(&ring.letters);
+    let mut scope = Scope::new(alloc);
+    let mut here = start;
+    while !is_over(scope.commands.len(), here) {
+        let names = Names {
+            ring: ring.name,
+            field,
+            letters,
+            d,
+            polys: &scope.polys,
+            ideals: &scope.ideals,
+        };
+        let (effect, after) = statement(alloc, &names, scope.commands.len(), here)?;
+        scope.apply(effect)?;
+        here = after;
+    }
+    Ok(scope.commands)
+}
+
+/// The field of a characteristic of the table.
+fn field_of(prime: u32) -> Field
+    requires { InTable prime }
+    ensures { result ≡ prime }
+{
+    let Some(field) = Field::of(prime) else {
+        unreachable!()
+    };
+    field
+}
+
+/// The letters of these bytes.
+fn letters_of(bytes: &[u8]) -> Letters
+    requires { AreLetters bytes.now }
+    ensures { result ≡ bytes.now }
+{
+    let Some(letters) = Letters::new(bytes) else {
+        unreachable!()
+    };
+    letters
+}
+
+/// The noether degree, from the word `noether` on. Another statement there is refused as such.
+fn noether_degree<'a>(letters: &[u8], here: Place<'a>) -> Result<(u32, Place<'a>), Refusal>
+    requires { AreLetters letters.now }
+    ensures reads { Reads (λ x. (x.0, place_of x.1)) result (noether_part letters.now (place_of here.entry)) }
+    ensures some { IfOk result (λ x. 1 ≤ x.0) }
+    ensures low { IfOk result (λ x. x.0 ≤ 255) }
+    ensures few { IfOk result (λ x. monomial_count (length letters.now) x.0 ≤ 4096) }
+{
+    if is_word(here, b"noether") {
+        return noether(&letters_of(letters), behind(here));
+    }
+    if begins_statement(here) {
+        return Err(refused(here, ReadKind::MissingNoether));
+    }
+    Err(refused(here, ReadKind::Expected(What::Noether)))
+}
+
+/// A script from its first token on.
+fn script(alloc: Global, here: Place<'_>) -> Result<Script, Stop>
+    ensures gives { Gives (λ s. s) result (script_parts (place_of here.entry)) }
+    ensures coherent { IfOk result IsCoherent }
+{
+    let here = remarks(here)?;
+    if !is_word(here, b"ring") {
+        return Err(Stop::Refused(refused(here, ReadKind::Expected(What::Ring))));
+    }
+    let (ring, after) = ring_statement(alloc, behind(here))?;
+    let here = remarks(after)?;
+    let (d, after) = noether_degree(&ring.letters, here)?;
+    let commands = statements(alloc, &ring, d, after)?;
+    Ok(Script {
+        letters: letters_of(&ring.letters),
+        field: field_of(ring.prime),
+        d,
+        commands: Commands::from_vec(commands),
+    })
+}
+
+/// The line and the column behind the bytes.
+fn position(bytes: &[u8]) -> (u32, u32)
+    requires { length bytes.now ≤ 1048576 }
+    ensures { (result.0, result.1) ≡ position_from 1 1 bytes.now }
+{
+    let mut line = 1;
+    let mut column = 1;
+    for b in bytes {
+        if *b == b'\n' {
+            line += 1;
+            column = 1;
+        } else {
+            column += 1;
+        }
+    }
+    (line, column)
+}
+
+/// The script of these bytes, or its first refusal with its position.
+fn located_script(alloc: Global, bytes: &[u8]) -> Result<Script, ReadError>
+    requires { length bytes.now ≤ 1048576 }
+    ensures exact { Answers bytes.now result (asked_by bytes.now) }
+    ensures coherent { IfOk result IsCoherent }
+{
+    match script(alloc, next_token(bytes)) {
+        Ok(script) => Ok(script),
+        Err(Stop::Memory) => Err(ReadError::Memory),
+        Err(Stop::Refused(refusal)) => {
+            let at = bytes.len().saturating_sub(refusal.left);
+            let (line, column) = position(&bytes[..at]);
+            Err(ReadError::At {
+                line,
+                column,
+                kind: refusal.kind,
+            })
+        }
+    }
+}
+
+/// What the script of these bytes asks for, or the first refusal in them.
+pub fn read_script(alloc: Global, bytes: &[u8]) -> Result<Script, ReadError>
+    requires { length bytes.now ≤ 1048576 }
+    // What is read is a script of the grammar, with its meaning.
+    ensures found { IfOk result (λ s. (t : Tree) × IsScript bytes.now t × (s ≡ meaning t)) }
+    // Each script of the grammar is read, unless memory runs out.
+    ensures only { (t : Tree) → IsScript bytes.now t → Answers bytes.now result (Ok (meaning t)) }
+    // Which refusal it is, and where: the first one.
+    ensures exact { Answers bytes.now result (asked_by bytes.now) }
+    // Its commands speak of one ring and one degree, within the limits.
+    ensures coherent { IfOk result IsCoherent }
+{
+    located_script(alloc, bytes)
+}
