@@ -1,0 +1,25 @@
+//! Where a table is parted.
+
+ghost use Rattle.std.specs.Prelude.{◌≡◌, ◌<◌, ◌≤◌, length, drop};
+ghost use Rattle.std.specs.Io.{StartsWith};
+ghost use Rattle.script_table.specs.Outcome.{separator};
+
+/// The line between two scripts.
+pub const SEPARATOR: &[u8] = b"%%\n";
+
+/// Where the first separator from `start` on begins, or else the table's end. A line begins at `start`.
+pub fn end_of_part(table: &[u8], start: usize) -> usize
+    requires { start ≤ length table.now }
+    ensures behind { start ≤ result }
+    ensures within { result ≤ length table.now }
+    ensures parted { result < length table.now → StartsWith (drop result table.now) separator }
+{
+    let mut begins_line = true;
+    for i in start..table.len() {
+        if begins_line && table[i..].starts_with(SEPARATOR) {
+            return i;
+        }
+        begins_line = table[i] == b'\n';
+    }
+    table.len()
+}
