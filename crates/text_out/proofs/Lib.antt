@@ -1,0 +1,3 @@
+pub mod MonoTexts
+pub mod PolyTexts
+pub mod BlockTexts

@@ -1,0 +1,183 @@
+//! Texts that were written by hand.
+
+ghost use Rattle.std.specs.Prelude.{◌≡◌, length, All, IfOk};
+ghost use Rattle.std.specs.Str.{IsAscii};
+ghost use Rattle.sparse_poly.specs.Poly.{IsCanonical};
+ghost use Rattle.text_out.specs.Answers.{IsInRing};
+
+use super::*;
+use local_order::Mono;
+use prime_field::Field;
+use script_grammar::{Command, Name, Subject, Word};
+use sparse_poly::{Letters, Poly, PolyTerm, Polys};
+use std::alloc::Global;
+use std::test::Fail;
+
+/// The exponents of x and y.
+type Exponents = [u16; 2];
+
+/// The exponents of x and y in a term, and its coefficient.
+type Written = (Exponents, u32);
+
+fn letters() -> Result<Letters, Fail>
+    ensures { IfOk result (λ l. length l ≡ 2) }
+{
+    Ok(Letters::new(b"xy").ok_or("no letters")?)
+}
+
+fn field(p: u32) -> Result<Field, Fail>
+    ensures { IfOk result (λ f. f ≡ p) }
+{
+    Ok(Field::of(p).ok_or("no field")?)
+}
+
+fn mono(exponents: &Exponents) -> Result<Mono, Fail>
+    ensures { IfOk result (λ m. length m ≡ 2) }
+{
+    Ok(Mono::new(&exponents[..]).ok_or("no monomial")?)
+}
+
+fn term(written: &Written) -> Result<PolyTerm, Fail>
+    ensures { IfOk result (λ t. length t.mono ≡ 2) }
+{
+    Ok(PolyTerm {
+        mono: mono(&written.0)?,
+        coef: written.1,
+    })
+}
+
+fn poly(alloc: Global, field: &Field, terms: &[Written]) -> Result<Poly, Fail>
+    ensures { IfOk result (λ f. IsCanonical field.now 2 f.terms) }
+{
+    let mut all = Vec::new(alloc);
+    for written in terms {
+        all.push(term(written)?)?;
+    }
+    Ok(Poly::from_terms(alloc, field, 2, all)?)
+}
+
+/// The polynomials that have one term each, with coefficient 1.
+fn basis(alloc: Global, field: &Field, leads: &[Exponents]) -> Result<Polys, Fail>
+    ensures { IfOk result (λ fs. All (λ f. IsCanonical field.now 2 f.terms) fs) }
+{
+    let mut all = Polys::new(alloc);
+    for lead in leads {
+        all.push(poly(alloc, field, &[(*lead, 1)])?)?;
+    }
+    Ok(all)
+}
+
+fn stair(alloc: Global, monomials: &[Exponents]) -> Result<Monos, Fail>
+    ensures { IfOk result (λ ms. All (λ m. length m ≡ 2) ms) }
+{
+    let mut all = Monos::new(alloc);
+    for exponents in monomials {
+        all.push(mono(exponents)?)?;
+    }
+    Ok(all)
+}
+
+/// The command `std(i)`.
+fn command(alloc: Global) -> Result<Command, Fail>
+    ensures word { IfOk result (λ c. c.word ≡ Word.Std) }
+    ensures name { IfOk result (λ c. IsAscii c.name) }
+{
+    Ok(Command {
+        word: Word::Std,
+        name: Name::new(alloc, b"i")?,
+        subject: Subject::Function(Poly::zero(alloc, 2)),
+    })
+}
+
+#[test]
+fn monomials(rt: HostRuntime) -> Result<(), Fail> {
+    let alloc = rt.alloc();
+    let letters = letters()?;
+    for (exponents, expected) in [
+        ([0, 0], "1"),
+        ([1, 0], "x"),
+        ([0, 12], "y^12"),
+        ([2, 1], "x^2*y"),
+    ] {
+        assert_eq!(rt;
+            mono_text(alloc, &letters, &mono(&exponents)?)?.as_str(),
+            expected
+        );
+    }
+    Ok(())
+}
+
+#[test]
+fn polynomials(rt: HostRuntime) -> Result<(), Fail> {
+    let alloc = rt.alloc();
+    let letters = letters()?;
+    for (p, terms, expected) in [
+        (
+            32003,
+            &[([2, 1], 1), ([0, 4], 16004)][..],
+            "x^2*y-15999*y^4",
+        ),
+        (32003, &[([0, 2], 16001), ([1, 0], 32002)], "-x+16001*y^2"),
+        (32003, &[([0, 0], 32002)], "-1"),
+        (2, &[([0, 0], 1), ([1, 0], 1), ([0, 1], 3)], "1+x+y"),
+        (2, &[([1, 1], 2)], "0"),
+        (2, &[([0, 0], 1)], "1"),
+    ] {
+        let field = field(p)?;
+        let text = poly_text(alloc, &letters, &field, &poly(alloc, &field, terms)?)?;
+        assert_eq!(rt; text.as_str(), expected);
+    }
+    Ok(())
+}
+
+#[test]
+fn blocks(rt: HostRuntime) -> Result<(), Fail> {
+    let alloc = rt.alloc();
+    let letters = letters()?;
+    let field = field(32003)?;
+    let command = command(alloc)?;
+    for (leads, monomials, expected) in [
+        (
+            &[[3, 0], [2, 1], [0, 3]][..],
+            &[[0, 0], [1, 0], [0, 1], [2, 0], [1, 1], [0, 2], [1, 2]][..],
+            "1 std i\n_[1]=x^3\n_[2]=x^2*y\n_[3]=y^3\ncorner x*y^2\ndim 7\n",
+        ),
+        (&[[0, 0]], &[], "1 std i\n_[1]=1\ncorner none\ndim 0\n"),
+    ] {
+        let answer = Answer::Fits {
+            basis: basis(alloc, &field, leads)?,
+            stair: stair(alloc, monomials)?,
+        };
+        let text = block_text(alloc, 1, &letters, &field, &command, &answer)?;
+        assert_eq!(rt; text.as_str(), expected);
+    }
+    Ok(())
+}
+
+#[test]
+fn small_degree(rt: HostRuntime) -> Result<(), Fail> {
+    let alloc = rt.alloc();
+    let answer = Answer::TooSmall {
+        missing: mono(&[0, 5])?,
+    };
+    let text = block_text(
+        alloc,
+        1,
+        &letters()?,
+        &field(32003)?,
+        &command(alloc)?,
+        &answer,
+    )?;
+    assert_eq!(rt; text.as_str(), "1 std i\nD 5 is too small: y^5\n");
+    Ok(())
+}
+
+#[test]
+fn lists(rt: HostRuntime) -> Result<(), Fail> {
+    let alloc = rt.alloc();
+    let mut list = Vec::new(alloc);
+    list.push(mono(&[1, 0])?)?;
+    let list = Monos::from_vec(list);
+    assert_eq!(rt; (list.len(), list.get(0).degree()), (1, 1));
+    Ok(())
+}
