@@ -1,5 +1,5 @@
 -- How a call ends that writes a text that is due.
-use Rattle.std.proofs.Common.{◌≡◌, inl, inr, ⊎_elim, ℕ, List, take, length, [], sym, refl, subst, arith}
+use Rattle.std.proofs.Common.{◌≡◌, inl, inr, ⊎_elim, ℕ, List, take, length, [], sym, subst, arith}
 use Rattle.std.proofs.KnownBytes.{Appends-nil}
 use Rattle.std.specs.declared.option.Option.{Option}
 use Rattle.std.proofs.lemmas.List.{take_all}
@@ -7,7 +7,6 @@ use Rattle.std.specs.Io.KnownBytes.{Appends}
 use Rattle.local_std.specs.declared.outcome.Status.{Status}
 use Rattle.local_std.specs.declared.outcome.Status.TheVariants.{Fits, Rejected, Input, TooSmall, Memory, ReadFault, WriteFault, Usage}
 use Rattle.local_std.specs.Due.{OnAnswer, Ends}
-use Rattle.io_edge.specs.Faults.{Rose}
 use Rattle.local_std.specs.View.{Wrote}
 
 -- a status that comes with a text
@@ -57,34 +56,13 @@ on_answer Memory P p = tt
 on_answer ReadFault P p = tt
 on_answer WriteFault P p = tt
 
-module _ {K C : Type 0} (out : K → Option (List ℕ)) (cert : C → Option (List ℕ)) (D : Status → List ℕ → List ℕ → Type 0)
+module _ {K C : Type 0} (out : K → Option (List ℕ)) (cert : C → Option (List ℕ)) (D : Status → List ℕ → List ℕ → Type 0) (R : Type 0)
     (r r' : ℕ) (k k' : K) (f f' : ℕ) (c : C) (h h' : ℕ) where
-  -- after the reading failed
-  pub ends_read_fault : Rose r r' → k' ≡ k → Ends out cert D r r' k k' f f' c c h h' ReadFault
-  ends_read_fault rose same = record {
-    written = tt;
-    read_fault = λ e. rose;
-    write_fault = λ e. absurd (cc (e));
-    unread = λ e. (same, refl);
-    memory = λ e. absurd (cc (e));
-    cut = λ e. absurd (cc (e));
-  }
-
-  pub ends_memory : k' ≡ k → Ends out cert D r r' k k' f f' c c h h' Memory
-  ends_memory same = record {
-    written = tt;
-    read_fault = λ e. absurd (cc (e));
-    write_fault = λ e. absurd (cc (e));
-    unread = λ e. absurd (cc (e));
-    memory = λ e. (same, refl);
-    cut = λ e. absurd (cc (e));
-  }
-
   -- after a text that is due was written, or the sink failed in it
-  pub ends_written : (status result : Status) (text : List ℕ) → IsTold status → D status text [] → Wrote status text (out k) (out k') f f' result → Ends out cert D r r' k k' f f' c c h h' result
-  ends_written status result text told d (inl ok) = subst (λ s. Ends out cert D r r' k k' f f' c c h h' s) (sym ok.0) (go status told d)
+  pub ends_written : (status result : Status) (text : List ℕ) → IsTold status → D status text [] → Wrote status text (out k) (out k') f f' result → Ends out cert D R r r' k k' f f' c c h h' result
+  ends_written status result text told d (inl ok) = subst (λ s. Ends out cert D R r r' k k' f f' c c h h' s) (sym ok.0) (go status told d)
     where
-      go : (s : Status) → IsTold s → D s text [] → Ends out cert D r r' k k' f f' c c h h' s
+      go : (s : Status) → IsTold s → D s text [] → Ends out cert D R r r' k k' f f' c c h h' s
       go s t d = record {
         written = on_answer s _ (text, [], d, ok.1, Appends-nil (cert c));
         read_fault = λ e. absurd (told_no s ReadFault t e tt);
@@ -93,7 +71,7 @@ module _ {K C : Type 0} (out : K → Option (List ℕ)) (cert : C → Option (Li
         memory = λ e. absurd (told_no s Memory t e tt);
         cut = λ e. absurd (told_no s WriteFault t e tt);
       }
-  ends_written status result text told d (inr err) = subst (λ s. Ends out cert D r r' k k' f f' c c h h' s) (sym err.0) (record {
+  ends_written status result text told d (inr err) = subst (λ s. Ends out cert D R r r' k k' f f' c c h h' s) (sym err.0) (record {
     written = tt;
     read_fault = λ e. absurd (cc (e));
     write_fault = λ e. inl err.1;

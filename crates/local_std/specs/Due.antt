@@ -1,16 +1,23 @@
 -- Which status and which text are due.
-use Rattle.std.specs.Prelude.{◌≡◌, ℕ, ◌<◌, ◌≤◌, ◌⊎◌, List, [], length, take}
+use Rattle.std.specs.Prelude.{◌≡◌, ℕ, ◌<◌, ◌≤◌, ◌⊎◌, List, [], length, take, Err}
 use Rattle.std.specs.declared.option.Option.{Option}
 use Rattle.std.specs.Io.KnownBytes.{Appends}
 use Rattle.io_edge.specs.Faults.{Rose}
 use Rattle.io_edge.specs.Reads.{Gave}
+use Rattle.script_grammar.specs.declared.refusal.Refusal.{Refusal}
+use Rattle.script_grammar.specs.declared.script.Word.{Word}
+use Rattle.script_grammar.specs.declared.script.Command.{Command}
+use Rattle.script_grammar.specs.Trees.{Tree}
+use Rattle.script_grammar.specs.Script.{script_of, position_of}
+use Rattle.script_grammar.specs.Valid.{IsScript}
+use Rattle.script_grammar.specs.Meaning.{meaning}
+use Rattle.script_grammar.specs.First.{IsFirst}
 use Rattle.local_std.specs.declared.outcome.Status.{Status}
 use Rattle.local_std.specs.declared.outcome.Status.TheVariants.{Fits, Rejected, Input, TooSmall, Memory, ReadFault, WriteFault, Usage}
 use Rattle.local_std.specs.Words.{Request, solve, Asks, InGrammar}
-use Rattle.local_std.specs.Script.{Script, Command}
-use Rattle.local_std.specs.FirstForm.{IsScript}
+use Rattle.local_std.specs.Built.{AllBuilt, IsFirstUnbuilt}
 use Rattle.local_std.specs.Answer.{IsAnswer, IsCertificate, AllFit, SomeIsSmall}
-use Rattle.local_std.specs.Texts.{usage_line, too_long_line, not_in_form_line}
+use Rattle.local_std.specs.Texts.{usage_line, too_long_line, not_built_line, refusal_line}
 
 -- the greatest number of bytes of a script
 abbrev pub max_script : ℕ
@@ -18,21 +25,37 @@ max_script = 1048576
 
 -- A status, the text for `out` and the text for `cert` that are due.
 -- ---- solve
--- the bytes are a script, and this one alone; its commands have Q, and the text answers it
-pub record Solves (Q : List Command → Type 0) (input text proof : List ℕ) : Type 0 where
-  pub script : Script
+-- the bytes are a script of the grammar, and of one tree alone
+pub record IsScriptOf (input : List ℕ) (tree : Tree) : Type 0 where
   pub few : length input ≤ max_script
-  pub is_script : IsScript input script
-  pub only : (other : Script) → IsScript input other → other ≡ script
-  pub commands : Q script.commands
-  pub answer : IsAnswer script text
-  pub certificate : IsCertificate script proof
+  pub is_script : IsScript input tree
+  pub only : (other : Tree) → IsScript input other → other ≡ tree
 
--- the bytes are no script
-pub record IsNoScript (input text : List ℕ) : Type 0 where
+-- the commands of the script are built and have Q, and the text answers it
+pub record Solves (Q : List Command → Type 0) (input text proof : List ℕ) : Type 0 where
+  pub tree : Tree
+  pub script : IsScriptOf input tree
+  pub built : AllBuilt (meaning tree).commands
+  pub commands : Q (meaning tree).commands
+  pub answer : IsAnswer (meaning tree) text
+  pub certificate : IsCertificate (meaning tree) proof
+
+-- the script has a command that isn't built, and the text names the first one
+pub record IsNotBuilt (input text : List ℕ) : Type 0 where
+  pub tree : Tree
+  pub script : IsScriptOf input tree
+  pub word : Word
+  pub first : IsFirstUnbuilt (meaning tree).commands word
+  pub spelled : text ≡ not_built_line word
+
+-- the bytes are no script, and the text is the first refusal, with its line and column
+pub record IsRefused (input text : List ℕ) : Type 0 where
   pub few : length input ≤ max_script
-  pub none : (script : Script) → IsScript input script → ⊥
-  pub spelled : text ≡ not_in_form_line
+  pub none : (tree : Tree) → IsScript input tree → ⊥
+  pub refusal : Refusal
+  pub refuses : script_of input ≡ Err refusal
+  pub first : IsFirst input refusal
+  pub spelled : text ≡ refusal_line (position_of input refusal).0 (position_of input refusal).1 refusal.kind
 
 pub record IsTooLong (input text : List ℕ) : Type 0 where
   pub many : max_script < length input
@@ -41,7 +64,7 @@ pub record IsTooLong (input text : List ℕ) : Type 0 where
 abbrev pub SolveDue : List ℕ → Status → List ℕ → List ℕ → Type 0
 SolveDue input Fits text proof = Solves AllFit input text proof
 SolveDue input TooSmall text proof = Solves SomeIsSmall input text proof
-SolveDue input Input text proof = (IsTooLong input text ⊎ IsNoScript input text) × (proof ≡ [])
+SolveDue input Input text proof = (IsTooLong input text ⊎ (IsRefused input text ⊎ IsNotBuilt input text)) × (proof ≡ [])
 SolveDue input Rejected text proof = ⊥
 SolveDue input Memory text proof = ⊥
 SolveDue input ReadFault text proof = ⊥
@@ -97,13 +120,14 @@ IsSolved ReadFault = ⊥
 IsSolved WriteFault = ⊥
 IsSolved Usage = ⊥
 
--- How a request ends where D is due: what it leaves of the source, of `out` and of `cert`.
-pub record Ends {K C : Type 0} (out : K → Option (List ℕ)) (cert : C → Option (List ℕ)) (D : Status → List ℕ → List ℕ → Type 0)
+-- How a request ends where D is due, and where R holds of the source after a read fault or want of memory:
+-- what it leaves of the source, of `out` and of `cert`.
+pub record Ends {K C : Type 0} (out : K → Option (List ℕ)) (cert : C → Option (List ℕ)) (D : Status → List ℕ → List ℕ → Type 0) (R : Type 0)
     (read_before read_now : ℕ) (k k' : K) (out_before out_now : ℕ) (c c' : C) (cert_before cert_now : ℕ) (status : Status) : Type 0 where
   pub written : OnAnswer status ((text proof : List ℕ) × D status text proof × Appends (out k) (out k') text × Appends (cert c) (cert c') proof)
   pub read_fault : status ≡ ReadFault → Rose read_before read_now
   pub write_fault : status ≡ WriteFault → Rose out_before out_now ⊎ Rose cert_before cert_now
-  pub unread : status ≡ ReadFault → (k' ≡ k) × (c' ≡ c)
-  pub memory : status ≡ Memory → (k' ≡ k) × (c' ≡ c)
+  pub unread : status ≡ ReadFault → (k' ≡ k) × (c' ≡ c) × R
+  pub memory : status ≡ Memory → (k' ≡ k) × (c' ≡ c) × R
   pub cut : status ≡ WriteFault → (due : Status) × (text proof : List ℕ) × (n : ℕ) × D due text proof
       × Appends (out k) (out k') (take n text) × Appends (cert c) (cert c') proof

@@ -1,9 +1,7 @@
 pub mod Words
-pub mod Script
-pub mod FirstForm
-pub mod Reading
-pub mod Texts
+pub mod Built
 pub mod Answer
+pub mod Texts
 pub mod Due
 pub mod View
 pub mod Number

@@ -1,79 +1,63 @@
--- The texts of monomials, polynomials and lines.
-use Rattle.std.specs.Prelude.{ℕ, ◌+◌, List, [], ◌∷◌, ◌++◌, Bool, length, codes, decimal, ◌==◌, if◌then◌else◌}
-use Rattle.std.specs.List.{join_with_byte}
-use Rattle.prime_field.specs.Sign.{sign_form}
-use Rattle.local_order.specs.Mono.{degree}
-use Rattle.sparse_poly.specs.Poly.{Term, Poly}
+-- The lines that answer no script.
+use Rattle.std.specs.Prelude.{ℕ, List, ◌++◌, codes, decimal}
+use Rattle.script_grammar.specs.declared.refusal.What.{What}
+use Rattle.script_grammar.specs.declared.refusal.What.TheVariants as whats
+use Rattle.script_grammar.specs.declared.refusal.ReadKind.{ReadKind}
+use Rattle.script_grammar.specs.declared.refusal.ReadKind.TheVariants as kinds
+use Rattle.script_grammar.specs.declared.script.Word.{Word}
+use Rattle.script_grammar.specs.Trees.{command_word}
 
--- a letter with its exponent
-abbrev pub power_text : ℕ → ℕ → List ℕ
-power_text v e = if e == 1 then v ∷ [] else v ∷ 94 ∷ decimal e
-
--- the variables with exponent above 0, in the order of the ring
-abbrev pub powers : List ℕ → List ℕ → List (List ℕ)
-powers [] es = []
-powers (v ∷ vs) [] = []
-powers (v ∷ vs) (e ∷ es) = if e == 0 then powers vs es else power_text v e ∷ powers vs es
-
-abbrev pub mono_text : List ℕ → List ℕ → List ℕ
-mono_text letters m = if degree m == 0 then codes "1" else join_with_byte 42 (powers letters m)
-
--- a size and a monomial: a size of 1 is left out unless the monomial is 1
-abbrev pub size_text : List ℕ → ℕ → List ℕ → List ℕ
-size_text letters s m =
-    if degree m == 0 then decimal s else (if s == 1 then mono_text letters m else decimal s ++ 42 ∷ mono_text letters m)
-
--- a later term, with its sign
-abbrev pub term_text : ℕ → List ℕ → Term → List ℕ
-term_text p letters t = (if (sign_form p t.coef).0 then 45 else 43) ∷ size_text letters (sign_form p t.coef).1 t.mono
-
-abbrev pub terms_text : ℕ → List ℕ → Poly → List ℕ
-terms_text p letters [] = []
-terms_text p letters (t ∷ f) = term_text p letters t ++ terms_text p letters f
-
--- the first term has a sign only where it is a minus
-abbrev pub first_text : ℕ → List ℕ → Term → List ℕ
-first_text p letters t = (if (sign_form p t.coef).0 then 45 ∷ [] else []) ++ size_text letters (sign_form p t.coef).1 t.mono
-
-abbrev pub poly_text : ℕ → List ℕ → Poly → List ℕ
-poly_text p letters [] = codes "0"
-poly_text p letters (t ∷ f) = first_text p letters t ++ terms_text p letters f
-
--- ---- lines
--- the command's number, its word and the name in its argument
-abbrev pub heading : ℕ → List ℕ → List ℕ → List ℕ
-heading index word name = decimal index ++ codes " " ++ word ++ codes " " ++ name ++ codes "\n"
-
--- a numbered line
-abbrev pub member_line : ℕ → List ℕ → List ℕ
-member_line k text = codes "_[" ++ decimal k ++ codes "]=" ++ text ++ codes "\n"
-
--- the members of a basis, numbered from k on
-abbrev pub poly_lines : ℕ → List ℕ → ℕ → List Poly → List ℕ
-poly_lines p letters k [] = []
-poly_lines p letters k (g ∷ gs) = member_line k (poly_text p letters g) ++ poly_lines p letters (k + 1) gs
-
--- the highest corner: the last of the staircase
-abbrev pub corner_text : List ℕ → List (List ℕ) → List ℕ
-corner_text letters [] = codes "none"
-corner_text letters (m ∷ []) = mono_text letters m
-corner_text letters (m ∷ k ∷ stair) = corner_text letters (k ∷ stair)
-
-abbrev pub corner_line : List ℕ → List (List ℕ) → List ℕ
-corner_line letters stair = codes "corner " ++ corner_text letters stair ++ codes "\n"
-
-abbrev pub dim_line : List (List ℕ) → List ℕ
-dim_line stair = codes "dim " ++ decimal (length stair) ++ codes "\n"
-
-abbrev pub small_line : List ℕ → List ℕ → List ℕ
-small_line letters m = codes "D " ++ decimal (degree m) ++ codes " is too small: " ++ mono_text letters m ++ codes "\n"
-
--- ---- the lines that answer no script
 abbrev pub usage_line : List ℕ
 usage_line = codes "usage: lstd solve [--workers W] [--cert PATH] | lstd check | lstd bench K [--workers W] [--cert PATH]\n"
 
 abbrev pub too_long_line : List ℕ
 too_long_line = codes "input too long\n"
 
-abbrev pub not_in_form_line : List ℕ
-not_in_form_line = codes "script not in the first form\n"
+-- a command's word that isn't built
+abbrev pub not_built_line : Word → List ℕ
+not_built_line word = codes "not built: " ++ command_word word ++ codes "\n"
+
+-- ---- refusals
+-- what must stand at the place
+abbrev pub what_text : What → List ℕ
+what_text whats.Ring = codes "ring"
+what_text whats.Noether = codes "noether"
+what_text whats.Statement = codes "a statement"
+what_text whats.Name = codes "a name"
+what_text whats.Equals = codes "="
+what_text whats.Open = codes "("
+what_text whats.Close = codes ")"
+what_text whats.Semicolon = codes ";"
+what_text whats.Comma = codes ","
+what_text whats.Numeral = codes "a numeral"
+what_text whats.Variable = codes "a variable"
+what_text whats.Order = codes "an order"
+what_text whats.RedSb = codes "redSB"
+what_text whats.Library = codes "\"sing.lib\""
+what_text whats.Monomial = codes "a monomial"
+what_text whats.Operand = codes "an operand"
+what_text whats.Operator = codes "an operator or the end"
+what_text whats.Argument = codes "a name"
+
+abbrev pub kind_text : ReadKind → List ℕ
+kind_text kinds.BadByte = codes "bad byte"
+kind_text kinds.EndOfInput = codes "end of input"
+kind_text kinds.MissingNoether = codes "noether is missing"
+kind_text kinds.TooManyCommands = codes "too many commands"
+kind_text (kinds.Expected what) = codes "expected " ++ what_text what
+kind_text kinds.NotAPrime = codes "characteristic not in the table"
+kind_text kinds.TooManyVariables = codes "too many variables"
+kind_text kinds.NameClash = codes "name clash"
+kind_text kinds.TooManyNames = codes "too many names"
+kind_text kinds.UnknownName = codes "unknown name"
+kind_text kinds.ExponentTooLarge = codes "exponent too large"
+kind_text kinds.ZeroDivisor = codes "zero divisor"
+kind_text kinds.TooDeep = codes "too deep"
+kind_text kinds.NoetherDegree = codes "noether degree not 1 to 255"
+kind_text (kinds.TooManyMonomials count) = decimal count ++ codes " monomials, at most 4096"
+kind_text kinds.TooManyGenerators = codes "too many generators"
+
+-- a refusal, with its line and column
+abbrev pub refusal_line : ℕ → ℕ → ReadKind → List ℕ
+refusal_line line column kind =
+    codes "line " ++ decimal line ++ codes " column " ++ decimal column ++ codes ": " ++ kind_text kind ++ codes "\n"

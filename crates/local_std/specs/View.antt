@@ -1,10 +1,12 @@
 -- What the program's values stand for.
-use Rattle.std.specs.Prelude.{◌≡◌, ℕ, ◌⊎◌, List, take}
+use Rattle.std.specs.Prelude.{◌≡◌, ℕ, ◌⊎◌, List, take, string_bytes, if◌then◌else◌}
 use Rattle.std.specs.declared.option.Option.{Option}
 use Rattle.std.specs.Io.KnownBytes.{Appends}
 use Rattle.io_edge.specs.Faults.{Rose}
 use Rattle.local_std.specs.declared.outcome.Status.{Status}
-use Rattle.local_std.specs.declared.outcome.Status.TheVariants.{WriteFault}
+use Rattle.local_std.specs.declared.outcome.Status.TheVariants.{Fits, Input, TooSmall, WriteFault}
+use Rattle.local_std.specs.declared.reply.Reply.{Reply}
+use Rattle.local_std.specs.declared.reply.Reply.TheVariants.{Unanswered, Answered}
 use Rattle.local_std.specs.declared.words.Request.{Request as Asked}
 use Rattle.local_std.specs.declared.words.Request.TheVariants.{Solve}
 use Rattle.local_std.specs.Words.{Request, solve}
@@ -17,3 +19,12 @@ Wrote status text before now faults_before faults_now result =
 
 abbrev pub request_in : Asked → Request
 request_in Solve = solve
+
+-- the status and the text of a reply
+abbrev pub status_of : Reply → Status
+status_of (Unanswered line) = Input
+status_of (Answered blocks) = if blocks.fits then Fits else TooSmall
+
+abbrev pub text_of : Reply → List ℕ
+text_of (Unanswered line) = line.bytes
+text_of (Answered blocks) = string_bytes blocks.text

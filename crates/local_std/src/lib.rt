@@ -4,12 +4,14 @@
 //! what answers a script, by the definitions of ideals alone.
 #![tactic(auto)]
 
+mod answer;
 mod block;
-mod first_form;
 mod gate;
 mod outcome;
-mod text;
+mod refusal;
+mod reply;
 mod top;
+mod unbuilt;
 mod words;
 
 pub use gate::{Gate, OpenGate};

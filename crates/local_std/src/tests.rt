@@ -12,103 +12,188 @@ struct Row {
     answer: &'static [u8],
 }
 
-const NOT_A_SCRIPT: &[u8] = b"script not in the first form\n";
-
 /// What answers the partial derivatives of x^5+x^2*y^2+y^5, modulo degree 7.
 const JACOBIAN: &[u8] =
     b"1 std i\n_[1]=x^2*y-15999*y^4\n_[2]=x*y^2-15999*x^4\n_[3]=x^5-y^5\n_[4]=y^6\ncorner y^5\ndim 11\n";
 
-const ROWS: [Row; 16] = [
+const ROWS: [Row; 32] = [
     // a fat point whose corner is no power of a variable
     Row {
-        script: b"ring r=32003,(x,y),ds;\nnoether=x^5;\nideal i=x^3,x^2*y,y^3;\nstd(i);\n",
+        script: b"ring r=32003,(x,y),ds;\nnoether=x^5;\nideal i=x3,x2y,y3; std(i);\n",
         status: Status::Fits,
         answer: b"1 std i\n_[1]=x^3\n_[2]=x^2*y\n_[3]=y^3\ncorner x*y^2\ndim 7\n",
     },
-    // the partial derivatives of x^5+x^2*y^2+y^5, in two orders, the second with one of them twice
+    // the partial derivatives of x^5+x^2*y^2+y^5: a whole script with remarks, comments and names, and a degree too small
     Row {
-        script: b"ring r=32003,(x,y),ds;\nnoether=y^6;\nideal i=2*x*y^2+5*x^4,2*x^2*y+5*y^4;\nstd(i);\n",
+        script: b"LIB \"sing.lib\";\nring r=32003,(x,y),ds;\noption(redSB);\nnoether=y^6;\npoly f=x5+x2y2+y5;   // multiplicity 4\nideal i=jacob(f);\nideal s=std(i);\nstd(i);\n",
         status: Status::Fits,
         answer: JACOBIAN,
     },
     Row {
-        script: b"ring r=32003,(x,y),ds;\nnoether=y^6;\nideal i=2*x^2*y+5*y^4,5*x^4+2*x*y^2,2*x^2*y+5*y^4;\nstd(i);\n",
-        status: Status::Fits,
-        answer: JACOBIAN,
-    },
-    // x^5 is a lead, and y^5 alone is missing
-    Row {
-        script: b"ring r=32003,(x,y),ds;\nnoether=y^5;\nideal i=2*x*y^2+5*x^4,2*x^2*y+5*y^4;\nstd(i);\n",
+        script: b"LIB \"sing.lib\";\nring r=32003,(x,y),ds;\noption(redSB);\nnoether=y^5;\npoly f=x5+x2y2+y5;   // multiplicity 4\nideal i=jacob(f);\nideal s=std(i);\nstd(i);\n",
         status: Status::TooSmall,
         answer: b"1 std i\nD 5 is too small: y^5\n",
     },
-    // the last line is missing
+    // the same generators, in another order and one of them twice
     Row {
-        script: b"ring r=32003,(x,y),ds;\nnoether=x^5;\nideal i=x^3,x^2*y,y^3;\n",
-        status: Status::Input,
-        answer: NOT_A_SCRIPT,
+        script: b"ring r=32003,(x,y),ds;\nnoether=y^6;\nideal i=2x2y+5y4,5x4+2xy2,2x2y+5y4; std(i);\n",
+        status: Status::Fits,
+        answer: JACOBIAN,
+    },
+    // 1-x is a unit at the origin
+    Row {
+        script: b"ring r=32003,(x),ds;\nnoether=x^3;\nideal i=x-x2; std(i);\n",
+        status: Status::Fits,
+        answer: b"1 std i\n_[1]=x\ncorner 1\ndim 1\n",
     },
     // x divides the first generator's lead, and y^3 comes from the difference
     Row {
-        script: b"ring r=32003,(x,y),ds;\nnoether=x^4;\nideal i=x-x^2-y^3,x;\nstd(i);\n",
+        script: b"ring r=32003,(x,y),ds;\nnoether=x^4;\nideal i=x-x2-y3,x; std(i);\n",
         status: Status::Fits,
         answer: b"1 std i\n_[1]=x\n_[2]=y^3\ncorner y^2\ndim 3\n",
     },
     // a unit
     Row {
-        script: b"ring r=32003,(x,y),ds;\nnoether=x^3;\nideal i=1+x;\nstd(i);\n",
+        script: b"ring r=32003,(x,y),ds;\nnoether=x^3;\nideal i=1+x; std(i);\n",
         status: Status::Fits,
         answer: b"1 std i\n_[1]=1\ncorner none\ndim 0\n",
     },
     // nothing
     Row {
-        script: b"ring r=32003,(x,y),ds;\nnoether=x^4;\nideal i=0;\nstd(i);\n",
+        script: b"ring r=32003,(x,y),ds;\nnoether=x^4;\nideal i=0; std(i);\n",
         status: Status::TooSmall,
         answer: b"1 std i\nD 4 is too small: x^4\n",
     },
-    // signs: -x+y-y is -x, and 2*32003*y is nothing
+    // 2x is nothing modulo 2
     Row {
-        script: b"ring r=32003,(x,y),ds;\nnoether=x^3;\nideal i=-x+y-y,y^2-2*32003*y;\nstd(i);\n",
+        script: b"ring r=2,(x,y),ds;\nnoether=x^3;\nideal i=2x+y,x2; std(i);\n",
         status: Status::Fits,
-        answer: b"1 std i\n_[1]=x\n_[2]=y^2\ncorner y\ndim 2\n",
+        answer: b"1 std i\n_[1]=y\n_[2]=x^2\ncorner x\ndim 2\n",
     },
-    // a pure power of each variable doesn't make the degree fit
+    // a generator beyond the degree
     Row {
-        script: b"ring r=32003,(x,y),ds;\nnoether=y^3;\nideal i=x^3,y^3;\nstd(i);\n",
-        status: Status::TooSmall,
-        answer: b"1 std i\nD 3 is too small: x^2*y\n",
-    },
-    // a generator beyond the degree, and one that is a multiple of another
-    Row {
-        script: b"ring r=32003,(x,y),ds;\nnoether=x^4;\nideal i=x^9,y,y*x;\nstd(i);\n",
+        script: b"ring r=32003,(x,y),ds;\nnoether=x^4;\nideal i=x9,y; std(i);\n",
         status: Status::TooSmall,
         answer: b"1 std i\nD 4 is too small: x^4\n",
+    },
+    // the greatest prime and the greatest degree, and the least of both
+    Row {
+        script: b"ring r=2147483647,(x),ds;\nnoether=x^255;\nideal i=2x255+x256; std(i);\n",
+        status: Status::Fits,
+        answer: b"1 std i\n_[1]=x^255\ncorner x^254\ndim 255\n",
+    },
+    Row {
+        script: b"ring r=5,(x),ds;\nnoether=x;\nideal i=x; std(i);\n",
+        status: Status::Fits,
+        answer: b"1 std i\n_[1]=x\ncorner 1\ndim 1\n",
+    },
+    // two commands, one of which doesn't fit
+    Row {
+        script: b"ring r=32003,(x,y),ds;\nnoether=x^2;\nideal i=x; ideal j=x,y; std(i); std(j);\n",
+        status: Status::TooSmall,
+        answer: b"1 std i\nD 2 is too small: y^2\n2 std j\n_[1]=x\n_[2]=y\ncorner 1\ndim 1\n",
+    },
+    // commands that are not built, also behind a degree that is too small
+    Row {
+        script: b"ring r=32003,(x,y),ds;\nnoether=x^5;\nideal i=x3,x2y,y3; vdim(i);\n",
+        status: Status::Input,
+        answer: b"not built: vdim\n",
+    },
+    Row {
+        script: b"ring r=32003,(x,y),ds;\nnoether=x^5;\nideal i=x; std(i); kbase(i); vdim(i);\n",
+        status: Status::Input,
+        answer: b"not built: kbase\n",
+    },
+    // refusals: the end of the input
+    Row {
+        script: b"ring r=32003,(x,y),ds;\nnoether=x^5;\nideal i=x3,",
+        status: Status::Input,
+        answer: b"line 3 column 12: end of input\n",
     },
     Row {
         script: b"",
         status: Status::Input,
-        answer: NOT_A_SCRIPT,
+        answer: b"line 1 column 1: end of input\n",
     },
     Row {
-        script: b"ring r=32003,(x,y),ds;\nnoether=x^22;\nideal i=x;\nstd(i);\n",
+        script: b"ring r=32003,(x,y),ds;\nnoether=x^5;\npoly f=\"a",
         status: Status::Input,
-        answer: NOT_A_SCRIPT,
+        answer: b"line 3 column 10: end of input\n",
     },
     Row {
-        script: b"ring r=32003,(x,y),ds;\nnoether=x^5;\nideal i=x^1001;\nstd(i);\n",
+        script: b"ring r=32003,(x,y),ds;\nnoether=x^5;\npoly f=x; /*",
         status: Status::Input,
-        answer: NOT_A_SCRIPT,
+        answer: b"line 3 column 13: end of input\n",
     },
+    // a byte of no token
     Row {
-        script: b"ring r=32003,(x,y),ds;\nnoether=x^5;\nideal i=x ,y;\nstd(i);\n",
+        script: b"ring r=32003,(x,y),ds;\nnoether=x^5;\npoly f=x;\x80\n",
         status: Status::Input,
-        answer: NOT_A_SCRIPT,
+        answer: b"line 3 column 10: bad byte\n",
     },
-    // leading zeros, and the exponents 0 and 1
+    // another token
     Row {
-        script: b"ring r=32003,(x,y),ds;\nnoether=x^005;\nideal i=x^0*y^01,x^02;\nstd(i);\n",
-        status: Status::Fits,
-        answer: b"1 std i\n_[1]=y\n_[2]=x^2\ncorner x\ndim 2\n",
+        script: b"ring r=32003,(x,y),ds;\nnoether=x^5;\npoly f=2x^3;\n",
+        status: Status::Input,
+        answer: b"line 3 column 10: expected an operator or the end\n",
+    },
+    Row {
+        script: b"ring r=32003,(x,y),dp;\n",
+        status: Status::Input,
+        answer: b"line 1 column 20: expected an order\n",
+    },
+    Row {
+        script: b"ring r=32003,(x,y),ds;\nideal i=x;\n",
+        status: Status::Input,
+        answer: b"line 2 column 1: noether is missing\n",
+    },
+    // names
+    Row {
+        script: b"ring r=32003,(x,y),ds;\nnoether=x^5;\npoly f=x+w;\n",
+        status: Status::Input,
+        answer: b"line 3 column 10: unknown name\n",
+    },
+    Row {
+        script: b"ring r=32003,(x,y),ds;\nnoether=x^5;\npoly xy=x;\n",
+        status: Status::Input,
+        answer: b"line 3 column 6: name clash\n",
+    },
+    // numbers
+    Row {
+        script: b"ring r=32002,(x,y),ds;\nnoether=x^5;\n",
+        status: Status::Input,
+        answer: b"line 1 column 8: characteristic not in the table\n",
+    },
+    Row {
+        script: b"ring r=2,(x,y),ds;\nnoether=x^5;\npoly f=1/2;\n",
+        status: Status::Input,
+        answer: b"line 3 column 10: zero divisor\n",
+    },
+    Row {
+        script: b"ring r=32003,(x,y),ds;\nnoether=x^5;\npoly f=x^1001;\n",
+        status: Status::Input,
+        answer: b"line 3 column 10: exponent too large\n",
+    },
+    Row {
+        script: b"ring r=32003,(x,y),ds;\nnoether=x^5;\npoly f=x1001;\n",
+        status: Status::Input,
+        answer: b"line 3 column 8: exponent too large\n",
+    },
+    // degrees
+    Row {
+        script: b"ring r=32003,(x,y),ds;\nnoether=x^256;\n",
+        status: Status::Input,
+        answer: b"line 2 column 9: noether degree not 1 to 255\n",
+    },
+    Row {
+        script: b"ring r=32003,(x,y),ds;\nnoether=x0;\n",
+        status: Status::Input,
+        answer: b"line 2 column 9: noether degree not 1 to 255\n",
+    },
+    Row {
+        script: b"ring r=32003,(x,y,z),ds;\nnoether=x^28;\n",
+        status: Status::Input,
+        answer: b"line 2 column 9: 4495 monomials, at most 4096\n",
     },
 ];
 
@@ -163,7 +248,7 @@ fn is_usage<R: Threads + Sync>(rt: &R, alloc: Global, words: &[&str]) -> Result<
 }
 
 #[test]
-fn words_faults_and_limits(rt: HostRuntime) -> Result<(), Fail> {
+fn words_and_faults(rt: HostRuntime) -> Result<(), Fail> {
     let alloc = rt.alloc();
     let script = ROWS[0].script;
 
@@ -180,80 +265,144 @@ fn words_faults_and_limits(rt: HostRuntime) -> Result<(), Fail> {
     let (status, out) = run(&rt, alloc, &["solve"], script, &[], 7)?;
     assert_eq!(rt; status, Status::WriteFault);
     assert_eq!(rt; out.bytes(), b"1 std i".as_slice());
-
-    // one byte more than a script may have
-    let long = vec![in alloc; b' '; 1_048_577]?;
-    let (status, out) = run(&rt, alloc, &["solve"], &long, &[], 1000)?;
-    assert_eq!(rt; status, Status::Input);
-    assert_eq!(rt; out.bytes(), b"input too long\n".as_slice());
     Ok(())
 }
 
-/// A script with so many generators, all of which are x^21.
-fn many_members(alloc: Global, count: usize) -> Result<Vec<u8>, Fail> {
-    let mut script = b"ring r=32003,(x,y),ds;\nnoether=x^21;\nideal i=y".to_vec(alloc)?;
-    for _ in 1..count {
-        script.extend_from_slice(b",x^21")?;
+/// Whether the script is answered by this status and text.
+fn is_answered<R: Threads + Sync>(
+    rt: &R,
+    alloc: Global,
+    script: &[u8],
+    status: Status,
+    answer: &[u8],
+) -> Result<bool, Fail> {
+    let (found, out) = run(rt, alloc, &["solve"], script, &[], 1000)?;
+    Ok(found == status && out.bytes() == answer)
+}
+
+/// A script that has a piece so many times.
+fn repeated(
+    alloc: Global,
+    before: &[u8],
+    piece: &[u8],
+    count: u32,
+    after: &[u8],
+) -> Result<Vec<u8>, Fail> {
+    let mut script = before.to_vec(alloc)?;
+    for _ in 0..count {
+        script.extend_from_slice(piece)?;
     }
-    script.extend_from_slice(b";\nstd(i);\n")?;
+    script.extend_from_slice(after)?;
     Ok(script)
 }
 
 #[test]
-fn sixty_four_members(rt: HostRuntime) -> Result<(), Fail> {
+fn limits(rt: HostRuntime) -> Result<(), Fail> {
     let alloc = rt.alloc();
-    let (status, out) = run(&rt, alloc, &["solve"], &many_members(alloc, 64)?, &[], 1000)?;
-    assert_eq!(rt; status, Status::Fits);
+
+    // the 33rd parenthesis, the 65th generator and the 65th command
+    let deep = repeated(
+        alloc,
+        b"ring r=32003,(x,y),ds;\nnoether=x^5;\npoly f=",
+        b"(",
+        33,
+        b"\n",
+    )?;
     assert_eq!(rt;
-        out.bytes(),
-        b"1 std i\n_[1]=y\n_[2]=x^21\ncorner x^20\ndim 21\n".as_slice()
+        is_answered(
+            &rt,
+            alloc,
+            &deep,
+            Status::Input,
+            b"line 3 column 40: too deep\n"
+        )?,
+        true
     );
-    let (status, out) = run(&rt, alloc, &["solve"], &many_members(alloc, 65)?, &[], 1000)?;
-    assert_eq!(rt; status, Status::Input);
-    assert_eq!(rt; out.bytes(), NOT_A_SCRIPT);
+    let members = repeated(
+        alloc,
+        b"ring r=32003,(x,y),ds;\nnoether=x^5;\nideal i=x",
+        b",x",
+        64,
+        b";\n",
+    )?;
+    assert_eq!(rt;
+        is_answered(
+            &rt,
+            alloc,
+            &members,
+            Status::Input,
+            b"line 3 column 137: too many generators\n"
+        )?,
+        true
+    );
+    let commands = repeated(
+        alloc,
+        b"ring r=32003,(x,y),ds;\nnoether=x^5;\nideal i=x;\n",
+        b"vdim(i);\n",
+        65,
+        b"",
+    )?;
+    assert_eq!(rt;
+        is_answered(
+            &rt,
+            alloc,
+            &commands,
+            Status::Input,
+            b"line 68 column 1: too many commands\n"
+        )?,
+        true
+    );
+
+    // a numeral of 1 and a hundred thousand zeros, which is 1 modulo 11
+    let numeral = repeated(
+        alloc,
+        b"ring r=11,(x),ds;\nnoether=x^2;\nideal i=1",
+        b"0",
+        100_000,
+        b"x; std(i);\n",
+    )?;
+    assert_eq!(rt;
+        is_answered(
+            &rt,
+            alloc,
+            &numeral,
+            Status::Fits,
+            b"1 std i\n_[1]=x\ncorner 1\ndim 1\n"
+        )?,
+        true
+    );
     Ok(())
 }
 
-/// A script with a numeral of a hundred thousand ones before x.
-fn long_numeral(alloc: Global) -> Result<Vec<u8>, Fail> {
-    let mut script = b"ring r=32003,(x,y),ds;\nnoether=x^3;\nideal i=".to_vec(alloc)?;
-    for _ in 0..100_000 {
-        script.push(b'1')?;
-    }
-    script.extend_from_slice(b"*x+y,y^2;\nstd(i);\n")?;
-    Ok(script)
-}
+#[test]
+fn longest_scripts(rt: HostRuntime) -> Result<(), Fail> {
+    let alloc = rt.alloc();
 
-/// A script with 64 members of 43 terms up to degree 21, the last of them x*y.
-fn dense_members(alloc: Global) -> Result<Vec<u8>, Fail> {
-    let mut script = b"ring r=32003,(x,y),ds;\nnoether=x^21;\nideal i=".to_vec(alloc)?;
-    for _ in 0..64 {
-        for e in 1..22_u8 {
-            script.extend_from_slice(b"x^")?;
-            script.push(b'0' + e / 10)?;
-            script.push(b'0' + e % 10)?;
-            script.extend_from_slice(b"-y^")?;
-            script.push(b'0' + (22 - e) / 10)?;
-            script.push(b'0' + (22 - e) % 10)?;
-            script.extend_from_slice(b"+")?;
-        }
-        script.extend_from_slice(b"x*y,")?;
-    }
-    script.pop();
-    script.extend_from_slice(b";\nstd(i);\n")?;
-    Ok(script)
+    // as many bytes as a script may have, and one more
+    let script = ROWS[0].script;
+    let blanks = 1_048_576_u32.saturating_sub(script.len() as u32);
+    let full = repeated(alloc, b"", b" ", blanks, script)?;
+    assert_eq!(rt; full.len(), 1_048_576);
+    assert_eq!(rt;
+        is_answered(&rt, alloc, &full, Status::Fits, ROWS[0].answer)?,
+        true
+    );
+    let long = repeated(alloc, b" ", b" ", blanks, script)?;
+    assert_eq!(rt;
+        is_answered(&rt, alloc, &long, Status::Input, b"input too long\n")?,
+        true
+    );
+    Ok(())
 }
 
 #[test]
-fn long_and_dense_scripts(rt: HostRuntime) -> Result<(), Fail> {
+fn most_monomials(rt: HostRuntime) -> Result<(), Fail> {
     let alloc = rt.alloc();
-    let (status, out) = run(&rt, alloc, &["solve"], &long_numeral(alloc)?, &[], 1000)?;
-    assert_eq!(rt; status, Status::Fits);
+    let script = b"ring r=32003,(x,y,z),ds;\nnoether=x^27;\nideal i=x2,y2,z2; std(i);\n";
+    let answer = b"1 std i\n_[1]=x^2\n_[2]=y^2\n_[3]=z^2\ncorner x*y*z\ndim 8\n";
     assert_eq!(rt;
-        out.bytes(),
-        b"1 std i\n_[1]=x-5579*y\n_[2]=y^2\ncorner y\ndim 2\n".as_slice()
+        is_answered(&rt, alloc, script, Status::Fits, answer)?,
+        true
     );
-    let (status, _out) = run(&rt, alloc, &["solve"], &dense_members(alloc)?, &[], 1000)?;
-    assert_eq!(rt; status, Status::TooSmall);
     Ok(())
 }

@@ -2,18 +2,20 @@
 ghost use Rattle.std.specs.Prelude.{◌≡◌, ℕ, ◌≤◌, ◌⊎◌, List, length, Some, map, take, string_bytes};
 ghost use Rattle.std.specs.Io.KnownBytes.{Appends};
 ghost use Rattle.io_edge.specs.Faults.{Rose};
+ghost use Rattle.io_edge.specs.Reads.{GaveSome};
+ghost use Rattle.script_grammar.specs.Trees.{Tree};
+ghost use Rattle.script_grammar.specs.Valid.{IsScript};
+ghost use Rattle.script_grammar.specs.Meaning.{meaning};
 ghost use Rattle.local_std.specs.Words.{InGrammar, Asks, solve};
-ghost use Rattle.local_std.specs.Script.{Script};
-ghost use Rattle.local_std.specs.FirstForm.{IsScript};
+ghost use Rattle.local_std.specs.Built.{AllBuilt};
 ghost use Rattle.local_std.specs.Due.{Due, Served, OnAnswer, IsSolved, Ends};
 ghost use Rattle.local_std.specs.View.{Wrote};
 ghost use Rattle.local_std.specs.Texts.{usage_line};
 ghost use Rattle.local_std.specs.declared.outcome.Status.TheVariants.{Usage};
 
-use crate::block::answer;
-use crate::first_form::read_form;
 use crate::gate::Gate;
 use crate::outcome::Status;
+use crate::reply::reply_to;
 use crate::words::{Request, request_of};
 use io_edge::{ReadAllError, Sink, Source, read_all, write_all_counted};
 use std::alloc::Global;
@@ -41,9 +43,11 @@ pub fn run_lstd<R: Threads + Sync, S: Source, K: Sink, C: Sink, G: Gate>(
     ensures read_fault { result ≡ Status.ReadFault → Rose (S.faults source.old) (S.faults source.new) }
     ensures write_fault { result ≡ Status.WriteFault → Rose (K.faults out.old) (K.faults out.new) ⊎ Rose (C.faults cert.old) (C.faults cert.new) }
 
-    // After one of these, nothing was written, and the words are in the grammar.
-    ensures unread { result ≡ Status.ReadFault → (out.new ≡ out.old) × (cert.new ≡ cert.old) × InGrammar (map string_bytes words.now) }
-    ensures memory { result ≡ Status.Memory → (out.new ≡ out.old) × (cert.new ≡ cert.old) × InGrammar (map string_bytes words.now) }
+    // After one of these, nothing was written, the source gave no more than the limit, and the words are in the grammar.
+    ensures unread { result ≡ Status.ReadFault → (out.new ≡ out.old) × (cert.new ≡ cert.old)
+        × GaveSome (S.left source.old) (S.left source.new) 1048576 × InGrammar (map string_bytes words.now) }
+    ensures memory { result ≡ Status.Memory → (out.new ≡ out.old) × (cert.new ≡ cert.old)
+        × GaveSome (S.left source.old) (S.left source.new) 1048576 × InGrammar (map string_bytes words.now) }
 
     // A fault of `out` leaves the beginning of a text that was due.
     ensures cut { result ≡ Status.WriteFault → (status : _) × (text proof : List ℕ) × (n : ℕ)
@@ -51,9 +55,9 @@ pub fn run_lstd<R: Threads + Sync, S: Source, K: Sink, C: Sink, G: Gate>(
         × Appends (K.written out.old) (K.written out.new) (take n text)
         × Appends (C.written cert.old) (C.written cert.new) proof }
 
-    // A script is answered, unless there was a fault or memory ran out.
-    ensures complete { (input : List ℕ) (script : Script) → S.left source.old ≡ Some input → Asks (map string_bytes words.now) solve
-        → length input ≤ 1048576 → IsScript input script
+    // A script whose commands are built is answered, unless there was a fault or memory ran out.
+    ensures complete { (input : List ℕ) (tree : Tree) → S.left source.old ≡ Some input → Asks (map string_bytes words.now) solve
+        → length input ≤ 1048576 → IsScript input tree → AllBuilt (meaning tree).commands
         → (Rose (S.faults source.old) (S.faults source.new) → ⊥)
         → (Rose (K.faults out.old) (K.faults out.new) ⊎ Rose (C.faults cert.old) (C.faults cert.new) → ⊥) → IsSolved result }
 {
@@ -81,7 +85,7 @@ fn solve<S: Source, K: Sink, C: Sink>(
     out: &mut K,
     cert: &mut C,
 ) -> Status
-    ensures { Ends K.written C.written (Served S.left solve source.old source.new)
+    ensures { Ends K.written C.written (Served S.left solve source.old source.new) (GaveSome (S.left source.old) (S.left source.new) 1048576)
         (S.faults source.old) (S.faults source.new) out.old out.new (K.faults out.old) (K.faults out.new)
         cert.old cert.new (C.faults cert.old) (C.faults cert.new) result }
 {
@@ -92,13 +96,9 @@ fn solve<S: Source, K: Sink, C: Sink>(
         Err(ReadAllError::Memory) => return Status::Memory,
         Err(ReadAllError::TooLong) => return written(out, b"input too long\n", Status::Input),
     };
-    match read_form(alloc, &bytes) {
+    match reply_to(alloc, &bytes) {
         Err(_) => Status::Memory,
-        Ok(None) => written(out, b"script not in the first form\n", Status::Input),
-        Ok(Some(problem)) => match answer(alloc, &problem) {
-            Err(_) => Status::Memory,
-            Ok(block) => written(out, &block.text, block.status()),
-        },
+        Ok(reply) => written(out, reply.text(), reply.status()),
     }
 }
 

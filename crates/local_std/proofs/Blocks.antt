@@ -1,0 +1,74 @@
+-- The blocks of the first commands, and of one more.
+use Rattle.std.proofs.Common.{◌≡◌, ℕ, ◌+◌, ◌≤◌, List, [], ◌∷◌, ◌++◌, length, refl, sym, ◌∙◌, ap, arith, subst, take, append_assoc, Bool, true, false, ◌&&◌, Some, add-zero, add-one, length-take-le}
+use Rattle.std.specs.Prelude.{slice_get, Contains}
+use Rattle.std.specs.Bool.{OnTrue, OnFalse}
+use Rattle.std.proofs.Math.Seq.{take-suc}
+use Rattle.std.proofs.lemmas.List.{append-nil, take_all}
+use Rattle.std.proofs.lemmas.List.Elements.{All-more, Contains-append_left, Contains-push}
+use Rattle.std.proofs.lemmas.Option.{slice_get_within, get_or_from_slice_get}
+use Rattle.sparse_poly.specs.Ideal.{Fits}
+use Rattle.script_grammar.specs.declared.script.Subject.{Subject}
+use Rattle.script_grammar.specs.declared.script.Command.{Command}
+use Rattle.script_grammar.specs.declared.script.Script.{Script}
+use Rattle.local_std.specs.Answer.{OfIdeal, IsBlock, AreBlocks, AllFit, SomeIsSmall}
+
+abbrev pub IsFitting : Subject → Type 0
+IsFitting subject = OfIdeal Fits subject
+
+abbrev pub IsSmall : Subject → Type 0
+IsSmall subject = OfIdeal (λ P. Fits P → ⊥) subject
+
+-- the text has the blocks of these commands, and the flag says whether the degree fits for each
+pub record AreDone (s : Script) (cs : List Command) (text : List ℕ) (fits : Bool) : Type 0 where
+  pub blocks : AreBlocks s 1 cs text
+  pub fit : OnTrue fits (AllFit cs)
+  pub small : OnFalse fits (SomeIsSmall cs)
+
+-- the first commands, with the one at the next place
+pub first_and_next : (cs : List Command) (k : ℕ) (c : Command) → slice_get cs k ≡ Some c → take (k + 1) cs ≡ take k cs ++ c ∷ []
+first_and_next cs k c at =
+    ap (λ j. take j cs) (add-one k)
+    ∙ take-suc cs k c (slice_get_within cs k c at)
+    ∙ ap (λ d. take k cs ++ d ∷ []) (get_or_from_slice_get cs k c c at)
+
+-- one block more
+blocks_push : (s : Script) (i : ℕ) (cs : List Command) (c : Command) (text block : List ℕ) → AreBlocks s i cs text → IsBlock s (i + length cs) c block → AreBlocks s i (cs ++ c ∷ []) (text ++ block)
+blocks_push s i [] c text block are is =
+    (block, [], subst (λ n. IsBlock s n c block) (add-zero i) is, refl, ap (λ (l : List ℕ). l ++ block) are ∙ sym (append-nil block))
+blocks_push s i (d ∷ cs) c text block (first, rest, one, more, spelled) is = (
+  first,
+  rest ++ block,
+  one,
+  blocks_push s (i + 1) cs c rest block more (let e : i + length (d ∷ cs) ≡ i + 1 + length cs = omega arith in subst (λ n. IsBlock s n c block) e is),
+  ap (λ (l : List ℕ). l ++ block) spelled ∙ append_assoc first rest block,
+)
+
+module _ (s : Script) (cs : List Command) (k : ℕ) (c : Command) (at : slice_get cs k ≡ Some c) (text block : List ℕ) (is : IsBlock s (k + 1) c block) where
+  blocks_next : AreBlocks s 1 (take k cs) text → AreBlocks s 1 (take (k + 1) cs) (text ++ block)
+  blocks_next are =
+      let within = slice_get_within cs k c at in
+      let n : k + 1 ≡ 1 + length (take k cs) = omega (arith, length-take-le k cs (omega (arith, within))) in
+      subst (λ l. AreBlocks s 1 l (text ++ block)) (sym (first_and_next cs k c at))
+      (blocks_push s 1 (take k cs) c text block are (subst (λ m. IsBlock s m c block) n is))
+
+  fit_next : AllFit (take k cs) → IsFitting c.subject → AllFit (take (k + 1) cs)
+  fit_next all one =
+      All-more (λ (e : Command). IsFitting e.subject) cs k c (slice_get_within cs k c at) all
+      (subst (λ (e : Command). IsFitting e.subject) (sym (get_or_from_slice_get cs k c c at)) one)
+
+  small_before : SomeIsSmall (take k cs) → SomeIsSmall (take (k + 1) cs)
+  small_before (e, there, small) =
+      (e, subst (λ l. Contains l e) (sym (first_and_next cs k c at)) (Contains-append_left (take k cs) (c ∷ []) e there), small)
+
+  small_here : IsSmall c.subject → SomeIsSmall (take (k + 1) cs)
+  small_here small = (c, subst (λ l. Contains l c) (sym (first_and_next cs k c at)) (Contains-push (take k cs) c), small)
+
+  -- one command more
+  pub one_more : (fits here : Bool) → AreDone s (take k cs) text fits → OnTrue here (IsFitting c.subject) → OnFalse here (IsSmall c.subject) → AreDone s (take (k + 1) cs) (text ++ block) (fits && here)
+  one_more true true done fit small = record { blocks = blocks_next done.blocks; fit = fit_next done.fit fit; small = tt }
+  one_more true false done fit small = record { blocks = blocks_next done.blocks; fit = tt; small = small_here small }
+  one_more false here done fit small = record { blocks = blocks_next done.blocks; fit = tt; small = small_before done.small }
+
+-- all commands are done
+pub all_done : (s : Script) (cs : List Command) (k : ℕ) (text : List ℕ) (fits : Bool) → length cs ≤ k → AreDone s (take k cs) text fits → AreDone s cs text fits
+all_done s cs k text fits past done = subst (λ l. AreDone s l text fits) (take_all k cs past) done

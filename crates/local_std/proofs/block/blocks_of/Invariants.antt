@@ -1,0 +1,6 @@
+use Rattle.std.proofs.Common.{take, string_bytes}
+use Rattle.local_std.proofs.Blocks.{AreDone}
+use Rattle.local_std.proofs.block.blocks_of.Given as goal
+
+abbrev pub invariant-loop-k : goal.invariant-loop-k
+invariant-loop-k l = AreDone l.script (take l.k l.script.commands) (string_bytes l.text) l.fits
