@@ -3,12 +3,12 @@ ghost use Rattle.std.specs.Prelude.{◌≡◌, IfOk, string_bytes, if◌then◌e
 ghost use Rattle.std.specs.Bool.{OnTrue, OnFalse};
 ghost use Rattle.sparse_poly.specs.Ideal.{Fits};
 ghost use Rattle.ring_reader.specs.Coherent.{IsCoherent, BelongsTo};
-ghost use Rattle.local_std.specs.Built.{AllBuilt};
+ghost use Rattle.local_std.specs.Built.{IsBuilt, AllBuilt};
 ghost use Rattle.local_std.specs.Answer.{OfIdeal, IsBlock, IsAnswer, AllFit, SomeIsSmall};
 
 use crate::answer::{answer_of, is_fitting};
 use crate::outcome::Status;
-use ring_reader::{Command, Script, Subject, Word};
+use ring_reader::{Command, Script, Subject};
 use std::alloc::{AllocError, Global};
 use text_out::block_text;
 
@@ -58,7 +58,7 @@ fn block_of(
     command: &Command,
 ) -> Result<Blocks, AllocError>
     requires belongs { BelongsTo script.now command.now }
-    requires built { command.now.word ≡ Word.Std }
+    requires built { IsBuilt command.now.word }
     ensures text { IfOk result (λ b. IsBlock script.now index command.now (string_bytes b.text)) }
     ensures fits { IfOk result (λ b. OnTrue b.fits (OfIdeal Fits command.now.subject)) }
     ensures small { IfOk result (λ b. OnFalse b.fits (OfIdeal (λ P. Fits P → ⊥) command.now.subject)) }

@@ -16,12 +16,17 @@ struct Row {
 const JACOBIAN: &[u8] =
     b"1 std i\n_[1]=x^2*y-15999*y^4\n_[2]=x*y^2-15999*x^4\n_[3]=x^5-y^5\n_[4]=y^6\ncorner y^5\ndim 11\n";
 
-const ROWS: [Row; 32] = [
+const ROWS: [Row; 34] = [
     // a fat point whose corner is no power of a variable
     Row {
         script: b"ring r=32003,(x,y),ds;\nnoether=x^5;\nideal i=x3,x2y,y3; std(i);\n",
         status: Status::Fits,
         answer: b"1 std i\n_[1]=x^3\n_[2]=x^2*y\n_[3]=y^3\ncorner x*y^2\ndim 7\n",
+    },
+    Row {
+        script: b"ring r=32003,(x,y),ds;\nnoether=x^5;\nideal i=x3,x2y,y3; vdim(i);\n",
+        status: Status::Fits,
+        answer: b"1 vdim i\ndim 7\n",
     },
     // the partial derivatives of x^5+x^2*y^2+y^5: a whole script with remarks, comments and names, and a degree too small
     Row {
@@ -33,6 +38,12 @@ const ROWS: [Row; 32] = [
         script: b"LIB \"sing.lib\";\nring r=32003,(x,y),ds;\noption(redSB);\nnoether=y^5;\npoly f=x5+x2y2+y5;   // multiplicity 4\nideal i=jacob(f);\nideal s=std(i);\nstd(i);\n",
         status: Status::TooSmall,
         answer: b"1 std i\nD 5 is too small: y^5\n",
+    },
+    // each word on an ideal, on the ideal and on its second name
+    Row {
+        script: b"LIB \"sing.lib\";\nring r=32003,(x,y),ds;\noption(redSB);\nnoether=y^6;\npoly f=x5+x2y2+y5;\nideal i=jacob(f);\nideal s=std(i);\nstd(i);\nvdim(s);\nkbase(std(i));\nhighcorner(s);\n",
+        status: Status::Fits,
+        answer: b"1 std i\n_[1]=x^2*y-15999*y^4\n_[2]=x*y^2-15999*x^4\n_[3]=x^5-y^5\n_[4]=y^6\ncorner y^5\ndim 11\n2 vdim s\ndim 11\n3 kbase i\ndim 11\n_[1]=1\n_[2]=x\n_[3]=y\n_[4]=x^2\n_[5]=x*y\n_[6]=y^2\n_[7]=x^3\n_[8]=y^3\n_[9]=x^4\n_[10]=y^4\n_[11]=y^5\n4 highcorner s\ncorner y^5\n",
     },
     // the same generators, in another order and one of them twice
     Row {
@@ -54,9 +65,9 @@ const ROWS: [Row; 32] = [
     },
     // a unit
     Row {
-        script: b"ring r=32003,(x,y),ds;\nnoether=x^3;\nideal i=1+x; std(i);\n",
+        script: b"ring r=32003,(x,y),ds;\nnoether=x^3;\nideal i=1+x; std(i); kbase(i); highcorner(i);\n",
         status: Status::Fits,
-        answer: b"1 std i\n_[1]=1\ncorner none\ndim 0\n",
+        answer: b"1 std i\n_[1]=1\ncorner none\ndim 0\n2 kbase i\ndim 0\n3 highcorner i\ncorner none\n",
     },
     // nothing
     Row {
@@ -95,14 +106,14 @@ const ROWS: [Row; 32] = [
     },
     // commands that are not built, also behind a degree that is too small
     Row {
-        script: b"ring r=32003,(x,y),ds;\nnoether=x^5;\nideal i=x3,x2y,y3; vdim(i);\n",
+        script: b"ring r=32003,(x,y),ds;\nnoether=x^5;\npoly f=x; milnor(f);\n",
         status: Status::Input,
-        answer: b"not built: vdim\n",
+        answer: b"not built: milnor\n",
     },
     Row {
-        script: b"ring r=32003,(x,y),ds;\nnoether=x^5;\nideal i=x; std(i); kbase(i); vdim(i);\n",
+        script: b"ring r=32003,(x,y),ds;\nnoether=x^5;\npoly f=x; ideal i=f; kbase(i); tjurina(f); milnor(f);\n",
         status: Status::Input,
-        answer: b"not built: kbase\n",
+        answer: b"not built: tjurina\n",
     },
     // refusals: the end of the input
     Row {

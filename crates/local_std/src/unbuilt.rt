@@ -1,7 +1,7 @@
 // Commands that are not built.
 ghost use Rattle.std.specs.Prelude.{◌≡◌, ◌↔◌, ◌≤◌, IsTrue, MatchOption, length};
 ghost use Rattle.script_grammar.specs.Trees.{command_word};
-ghost use Rattle.local_std.specs.Built.{AllBuilt, IsFirstUnbuilt};
+ghost use Rattle.local_std.specs.Built.{IsBuilt, AllBuilt, IsFirstUnbuilt};
 ghost use Rattle.local_std.specs.Texts.{not_built_line};
 
 use crate::refusal::Line;
@@ -23,9 +23,12 @@ pub fn first_unbuilt(commands: &Commands) -> Option<Word>
 
 /// Whether commands of this word are built.
 fn is_built(word: Word) -> bool
-    ensures { IsTrue result ↔ (word ≡ Word.Std) }
+    ensures { IsTrue result ↔ IsBuilt word }
 {
-    matches!(word, Word::Std)
+    matches!(
+        word,
+        Word::Std | Word::Vdim | Word::Kbase | Word::HighCorner
+    )
 }
 
 /// The line that names a word that isn't built. It takes no memory.

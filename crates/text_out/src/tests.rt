@@ -1,8 +1,9 @@
 //! Texts that were written by hand.
 
-ghost use Rattle.std.specs.Prelude.{◌≡◌, length, All, IfOk};
+ghost use Rattle.std.specs.Prelude.{◌≡◌, false, length, All, IfOk};
 ghost use Rattle.std.specs.Str.{IsAscii};
 ghost use Rattle.sparse_poly.specs.Poly.{IsCanonical};
+ghost use Rattle.script_grammar.specs.Statements.{is_on_poly};
 ghost use Rattle.text_out.specs.Answers.{IsInRing};
 
 use super::*;
@@ -77,16 +78,40 @@ fn stair(alloc: Global, monomials: &[Exponents]) -> Result<Monos, Fail>
     Ok(all)
 }
 
-/// The command `std(i)`.
-fn command(alloc: Global) -> Result<Command, Fail>
-    ensures word { IfOk result (λ c. c.word ≡ Word.Std) }
+/// The command of that word on i.
+fn command(alloc: Global, word: Word) -> Result<Command, Fail>
+    ensures word { IfOk result (λ c. c.word ≡ word) }
     ensures name { IfOk result (λ c. IsAscii c.name) }
 {
     Ok(Command {
-        word: Word::Std,
+        word,
         name: Name::new(alloc, b"i")?,
         subject: Subject::Function(Poly::zero(alloc, 2)),
     })
+}
+
+/// The block of the command of that word, where the basis has these leads and the staircase these monomials.
+fn fitting_block(
+    alloc: Global,
+    word: Word,
+    leads: &[Exponents],
+    monomials: &[Exponents],
+) -> Result<String, Fail>
+    requires { is_on_poly word ≡ false }
+{
+    let field = field(32003)?;
+    let answer = Answer::Fits {
+        basis: basis(alloc, &field, leads)?,
+        stair: stair(alloc, monomials)?,
+    };
+    Ok(block_text(
+        alloc,
+        1,
+        &letters()?,
+        &field,
+        &command(alloc, word)?,
+        &answer,
+    )?)
 }
 
 #[test]
@@ -130,27 +155,53 @@ fn polynomials(rt: HostRuntime) -> Result<(), Fail> {
     Ok(())
 }
 
+/// The leads and the staircase of x^3, x^2*y, y^3.
+const LEADS: &[Exponents] = &[[3, 0], [2, 1], [0, 3]];
+
+const STAIR: &[Exponents] = &[[0, 0], [1, 0], [0, 1], [2, 0], [1, 1], [0, 2], [1, 2]];
+
 #[test]
 fn blocks(rt: HostRuntime) -> Result<(), Fail> {
     let alloc = rt.alloc();
-    let letters = letters()?;
-    let field = field(32003)?;
-    let command = command(alloc)?;
-    for (leads, monomials, expected) in [
-        (
-            &[[3, 0], [2, 1], [0, 3]][..],
-            &[[0, 0], [1, 0], [0, 1], [2, 0], [1, 1], [0, 2], [1, 2]][..],
-            "1 std i\n_[1]=x^3\n_[2]=x^2*y\n_[3]=y^3\ncorner x*y^2\ndim 7\n",
-        ),
-        (&[[0, 0]], &[], "1 std i\n_[1]=1\ncorner none\ndim 0\n"),
-    ] {
-        let answer = Answer::Fits {
-            basis: basis(alloc, &field, leads)?,
-            stair: stair(alloc, monomials)?,
-        };
-        let text = block_text(alloc, 1, &letters, &field, &command, &answer)?;
-        assert_eq!(rt; text.as_str(), expected);
-    }
+    assert_eq!(rt;
+        fitting_block(alloc, Word::Std, LEADS, STAIR)?.as_str(),
+        "1 std i\n_[1]=x^3\n_[2]=x^2*y\n_[3]=y^3\ncorner x*y^2\ndim 7\n"
+    );
+    assert_eq!(rt;
+        fitting_block(alloc, Word::Vdim, LEADS, STAIR)?.as_str(),
+        "1 vdim i\ndim 7\n"
+    );
+    assert_eq!(rt;
+        fitting_block(alloc, Word::Kbase, LEADS, STAIR)?.as_str(),
+        "1 kbase i\ndim 7\n_[1]=1\n_[2]=x\n_[3]=y\n_[4]=x^2\n_[5]=x*y\n_[6]=y^2\n_[7]=x*y^2\n"
+    );
+    assert_eq!(rt;
+        fitting_block(alloc, Word::HighCorner, LEADS, STAIR)?.as_str(),
+        "1 highcorner i\ncorner x*y^2\n"
+    );
+    Ok(())
+}
+
+/// The blocks where 1 is in the ideal.
+#[test]
+fn blocks_of_a_unit(rt: HostRuntime) -> Result<(), Fail> {
+    let alloc = rt.alloc();
+    assert_eq!(rt;
+        fitting_block(alloc, Word::Std, &[[0, 0]], &[])?.as_str(),
+        "1 std i\n_[1]=1\ncorner none\ndim 0\n"
+    );
+    assert_eq!(rt;
+        fitting_block(alloc, Word::Vdim, &[[0, 0]], &[])?.as_str(),
+        "1 vdim i\ndim 0\n"
+    );
+    assert_eq!(rt;
+        fitting_block(alloc, Word::Kbase, &[[0, 0]], &[])?.as_str(),
+        "1 kbase i\ndim 0\n"
+    );
+    assert_eq!(rt;
+        fitting_block(alloc, Word::HighCorner, &[[0, 0]], &[])?.as_str(),
+        "1 highcorner i\ncorner none\n"
+    );
     Ok(())
 }
 
@@ -165,10 +216,10 @@ fn small_degree(rt: HostRuntime) -> Result<(), Fail> {
         1,
         &letters()?,
         &field(32003)?,
-        &command(alloc)?,
+        &command(alloc, Word::Kbase)?,
         &answer,
     )?;
-    assert_eq!(rt; text.as_str(), "1 std i\nD 5 is too small: y^5\n");
+    assert_eq!(rt; text.as_str(), "1 kbase i\nD 5 is too small: y^5\n");
     Ok(())
 }
 
