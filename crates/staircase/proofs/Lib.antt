@@ -1,0 +1,11 @@
+mod Falling
+pub mod Staircases
+mod Difference
+pub mod Basis
+mod Ranks
+mod Terms
+mod Descent
+pub mod Fits
+pub mod Leads
+pub mod Divisors
+pub mod Quotient

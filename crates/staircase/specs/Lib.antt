@@ -1,0 +1,2 @@
+pub mod Monomial
+pub mod Quotient

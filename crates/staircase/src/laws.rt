@@ -1,0 +1,66 @@
+//! The laws of reduced bases, staircases and leads.
+//! Each is a call that does nothing, and whose contract is the law.
+
+ghost use Rattle.std.specs.Prelude.{◌≡◌, ◌↔◌, ◌<◌, ◌≤◌, ℕ, List, [], length, All, Contains};
+ghost use Rattle.prime_field.specs.Prime.{IsPrime};
+ghost use Rattle.local_order.specs.Mono.{degree, Divides};
+ghost use Rattle.sparse_poly.specs.Poly.{Poly, IsIn};
+ghost use Rattle.sparse_poly.specs.Ideal.{Problem, IsInIdeal, IsLeadOfIdeal, IsStaircase, Fits, IsFirstMissing, IsReducedBasis, leads_of};
+ghost use Rattle.sparse_poly.specs.Span.{Agree};
+ghost use Rattle.staircase.specs.Monomial.{monomial};
+ghost use Rattle.staircase.specs.Quotient.{IsMadeOf, HasRemainder};
+
+/// A problem has at most one reduced standard basis, one staircase and one first missing monomial.
+pub fn one_answer()
+    ensures basis { (P : Problem) (G H : List Poly) → IsReducedBasis P G → IsReducedBasis P H → G ≡ H }
+    ensures staircase { (P : Problem) (s t : List (List ℕ)) → IsStaircase P s → IsStaircase P t → s ≡ t }
+    ensures missing { (P : Problem) (m k : List ℕ) → IsFirstMissing P m → IsFirstMissing P k → m ≡ k }
+{}
+
+/// The degree fits exactly where every monomial of degree d lies in the ideal modulo degree d + 1.
+pub fn fits()
+    ensures { (P : Problem) → IsPrime P.p
+        → Fits P ↔ ((m : List ℕ) → length m ≡ P.n → degree m ≡ P.d → IsInIdeal P (monomial m)) }
+{}
+
+/// Where the degree fits, no monomial is the first missing one. The first missing one is not in the ideal.
+pub fn fits_or_missing()
+    ensures exclusive { (P : Problem) (m : List ℕ) → Fits P → ¬ IsFirstMissing P m }
+    ensures outside { (P : Problem) (m : List ℕ) → IsPrime P.p → IsFirstMissing P m → ¬ IsInIdeal P (monomial m) }
+{}
+
+/// The degree fits exactly where each monomial of the staircase has a lesser degree.
+pub fn fits_by_the_staircase()
+    ensures low { (P : Problem) (s : List (List ℕ)) (m : List ℕ) → Fits P → IsStaircase P s → Contains s m → degree m < P.d }
+    ensures fits { (P : Problem) (G : List Poly) (s : List (List ℕ)) → All (IsIn P.n) P.gens → IsReducedBasis P G → IsStaircase P s
+        → ((m : List ℕ) → Contains s m → degree m < P.d)
+        → Fits P }
+{}
+
+/// Up to degree d the multiples of a lead are leads, and so the divisors of a monomial of the staircase are in the staircase.
+pub fn leads_are_closed()
+    ensures multiples { (P : Problem) (a m : List ℕ) → All (IsIn P.n) P.gens → length m ≡ P.n → degree m ≤ P.d
+        → Divides a m → IsLeadOfIdeal P a → IsLeadOfIdeal P m }
+    ensures divisors { (P : Problem) (s : List (List ℕ)) (a m : List ℕ) → All (IsIn P.n) P.gens → IsStaircase P s
+        → length a ≡ P.n → Divides a m → Contains s m → Contains s a }
+{}
+
+/// Up to degree d the leads are the monomials that a lead of the reduced basis divides, and the staircase has the others.
+pub fn basis_shows_leads()
+    ensures leads { (P : Problem) (G : List Poly) (m : List ℕ) → All (IsIn P.n) P.gens → IsReducedBasis P G
+        → length m ≡ P.n → degree m ≤ P.d
+        → IsLeadOfIdeal P m ↔ ((k : List ℕ) × Contains (leads_of G) k × Divides k m) }
+    ensures staircase { (P : Problem) (G : List Poly) (s : List (List ℕ)) (m : List ℕ) → All (IsIn P.n) P.gens
+        → IsReducedBasis P G → IsStaircase P s → length m ≡ P.n → degree m ≤ P.d
+        → Contains s m ↔ ((k : List ℕ) → Contains (leads_of G) k → ¬ Divides k m) }
+{}
+
+/// The monomials of the staircase are a basis of the polynomials modulo the ideal and degree d + 1: no combination of them
+/// but 0 is in the ideal, and each polynomial is one of them and a member of the ideal.
+pub fn staircase_is_a_basis()
+    ensures independent { (P : Problem) (s : List (List ℕ)) (f : Poly) → IsPrime P.p → IsStaircase P s → IsIn P.n f
+        → IsInIdeal P f → IsMadeOf P s f → Agree P f [] }
+    ensures spanning { (P : Problem) (G : List Poly) (s : List (List ℕ)) (f : Poly) → IsPrime P.p → All (IsIn P.n) P.gens
+        → IsReducedBasis P G → IsStaircase P s → IsIn P.n f
+        → HasRemainder P s f }
+{}
