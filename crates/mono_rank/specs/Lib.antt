@@ -1,0 +1,4 @@
+pub mod Rank
+pub mod Next
+pub mod Stored
+pub mod Table

@@ -1,0 +1,29 @@
+-- The rank of a monomial: how many of the monomials of bounded degree are greater in the order ds.
+use Rattle.std.specs.Prelude.{◌≡◌, ℕ, zero, suc, ◌<◌, ◌≤◌, ◌↔◌, List, [], length, Contains, count_by, slice_index_or}
+use Rattle.local_order.specs.Mono.{degree}
+use Rattle.local_order.specs.Order.{IsAbove, above}
+use Rattle.local_order.specs.Count.{monomial_count, monomials}
+
+-- how many monomials in n variables of degree at most d are above m
+unfoldable pub rank_of : ℕ → ℕ → List ℕ → ℕ
+rank_of n d m = count_by (λ k. above k m) (monomials n d)
+
+-- m is a monomial in n variables of degree at most d, and r is its rank
+pub record HasRank (n d : ℕ) (m : List ℕ) (r : ℕ) : Type 0 where
+  pub in_ring : length m ≡ n
+  pub low : degree m ≤ d
+  pub rank : rank_of n d m ≡ r
+
+-- how many monomials in n variables have a degree below d
+abbrev pub fewer : ℕ → ℕ → ℕ
+fewer n zero = 0
+fewer n (suc d) = monomial_count n d
+
+-- the monomial at place r of a list
+abbrev pub mono_at : List (List ℕ) → ℕ → List ℕ
+mono_at s r = slice_index_or s r []
+
+-- s has the monomials in n variables of degree at most d in falling order, each once
+pub record ListsMonomials (n d : ℕ) (s : List (List ℕ)) : Type 0 where
+  pub falling : (i j : ℕ) → i < j → j < length s → IsAbove (mono_at s i) (mono_at s j)
+  pub exactly : (m : List ℕ) → Contains s m ↔ ((length m ≡ n) × (degree m ≤ d))

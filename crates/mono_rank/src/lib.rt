@@ -1,0 +1,11 @@
+//! Numbers the monomials of bounded degree from the greatest in the order ds.
+#![tactic(auto)]
+
+mod build;
+pub mod laws;
+mod place;
+mod table;
+#[cfg(test)]
+mod tests;
+
+pub use table::{MAX_MONOMIALS, RankError, RankTable};

@@ -1,0 +1,148 @@
+//! Tables of ranks.
+
+ghost use Rattle.std.specs.Prelude.{◌≡◌, ℕ, List, ◌<◌, ◌≤◌, ◌↔◌, length, IsTrue, MatchOption, MatchResult};
+ghost use Rattle.local_order.specs.Mono.{degree, mono_times, Divides};
+ghost use Rattle.local_order.specs.Count.{monomial_count};
+ghost use Rattle.mono_rank.specs.Rank.{HasRank, fewer};
+ghost use Rattle.mono_rank.specs.Stored.{HasLimits};
+ghost use Rattle.mono_rank.specs.Table.{IsRefusal};
+
+use crate::build::{count_of, counts_below, falling};
+use crate::place::place_of;
+use local_order::Mono;
+use std::alloc::Global;
+use std::marker::Model;
+use thiserror::Error;
+
+/// The greatest number of monomials that a table numbers.
+pub const MAX_MONOMIALS: u64 = 4096;
+
+/// Why there is no table.
+#[derive(Clone, Copy, Debug, PartialEq, Eq, Error)]
+pub enum RankError {
+    /// There are more than [`MAX_MONOMIALS`] monomials, as many as told.
+    #[error("{0} monomials")]
+    TooManyMonomials(u64),
+    /// Memory ran out.
+    #[error("out of memory")]
+    Memory,
+}
+
+/// The monomials in one to eight variables of bounded degree, numbered from 0, the greatest in the order ds first.
+/// A contract sees the number of variables and the greatest degree.
+#[derive(Drop)]
+pub struct RankTable {
+    n: u32,
+    d: u32,
+    monos: Vec<Mono>,
+    counts: Vec<u64>,
+}
+
+impl Model for RankTable {
+    ghost use Rattle.mono_rank.specs.Stored.{Shape, IsTable};
+
+    ghost Value = { Shape };
+
+    ghost view = { λ t. record { n = t.n; d = t.d } };
+
+    ghost invariant = { λ t. IsTable t.n t.d t.monos.items t.counts.items };
+}
+
+impl RankTable {
+    /// The table of the monomials in `n` variables of degree at most `d`.
+    pub fn new(alloc: Global, n: u32, d: u32) -> Result<RankTable, RankError>
+        requires some { 1 ≤ n }
+        requires few { n ≤ 8 }
+        requires low { d ≤ 255 }
+        ensures { MatchResult result
+            (λ t. (t ≡ record { n = n; d = d }) × (monomial_count n d ≤ MAX_MONOMIALS))
+            (IsRefusal n d) }
+    {
+        let count = count_of(n, d);
+        if count > MAX_MONOMIALS {
+            return Err(RankError::TooManyMonomials(count));
+        }
+        let Ok(monos) = falling(alloc, n, d, count as u32) else {
+            return Err(RankError::Memory);
+        };
+        let Ok(counts) = counts_below(alloc, d) else {
+            return Err(RankError::Memory);
+        };
+        Ok(RankTable {
+            n,
+            d,
+            monos,
+            counts,
+        })
+    }
+
+    /// How many monomials there are.
+    pub fn count(&self) -> u32
+        ensures value { result ≡ monomial_count self.now.n self.now.d }
+        ensures small { result ≤ MAX_MONOMIALS }
+        ensures limits { HasLimits self.now.n self.now.d }
+    {
+        self.monos.len() as u32
+    }
+
+    /// The rank of a monomial. There is none where its degree is too great.
+    /// It costs as many additions as there are variables, each of a number of a small table.
+    pub fn rank(&self, m: &Mono) -> Option<u32>
+        requires { length m.now ≡ self.now.n }
+        ensures { MatchOption result (self.now.d < degree m.now) (HasRank self.now.n self.now.d m.now) }
+    {
+        if m.degree() > self.d {
+            return None;
+        }
+        Some(place_of(&self.counts, self.d, m))
+    }
+
+    /// The monomial of a rank, by a look-up.
+    pub fn mono(&self, rank: u32) -> Mono
+        requires { rank < monomial_count self.now.n self.now.d }
+        ensures { HasRank self.now.n self.now.d result rank }
+    {
+        self.monos[rank as usize]
+    }
+
+    /// The degree of the monomial of a rank, by a look-up.
+    pub fn degree_of(&self, rank: u32) -> u32
+        requires { rank < monomial_count self.now.n self.now.d }
+        ensures value { (m : List ℕ) → HasRank self.now.n self.now.d m rank → result ≡ degree m }
+        ensures low { result ≤ self.now.d }
+    {
+        self.monos[rank as usize].degree()
+    }
+
+    /// The rank of the product of the monomials of two ranks. There is none where its degree is too great.
+    /// It costs two look-ups, an addition for each of eight exponents, and what [`RankTable::rank`] costs.
+    pub fn times_rank(&self, a: u32, b: u32) -> Option<u32>
+        requires first { a < monomial_count self.now.n self.now.d }
+        requires second { b < monomial_count self.now.n self.now.d }
+        ensures { (x y : List ℕ) → HasRank self.now.n self.now.d x a → HasRank self.now.n self.now.d y b
+            → MatchOption result (self.now.d < degree (mono_times x y))
+            (HasRank self.now.n self.now.d (mono_times x y)) }
+    {
+        let product = self.monos[a as usize].times(&self.monos[b as usize])?;
+        self.rank(&product)
+    }
+
+    /// Whether the monomial of rank `a` divides that of rank `b`.
+    pub fn divides_rank(&self, a: u32, b: u32) -> bool
+        requires first { a < monomial_count self.now.n self.now.d }
+        requires second { b < monomial_count self.now.n self.now.d }
+        ensures { (x y : List ℕ) → HasRank self.now.n self.now.d x a → HasRank self.now.n self.now.d y b
+            → IsTrue result ↔ Divides x y }
+    {
+        self.monos[a as usize].divides(&self.monos[b as usize])
+    }
+
+    /// How many monomials have a degree below `d`: the rank of the first of degree `d`.
+    pub fn first_of_degree(&self, d: u32) -> u32
+        requires { d ≤ self.now.d }
+        ensures value { result ≡ fewer self.now.n d }
+        ensures small { result < monomial_count self.now.n self.now.d }
+    {
+        self.counts[(8 * d + self.n - 1) as usize] as u32
+    }
+}
