@@ -3,3 +3,4 @@ pub mod Rings
 pub mod Blocks
 pub mod Ends
 pub mod Dues
+pub mod OneText

@@ -7,6 +7,7 @@
 mod answer;
 mod block;
 mod gate;
+pub mod laws;
 mod outcome;
 mod refusal;
 mod reply;
