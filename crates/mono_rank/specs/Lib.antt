@@ -2,3 +2,4 @@ pub mod Rank
 pub mod Next
 pub mod Stored
 pub mod Table
+pub mod Cover

@@ -1,0 +1,5 @@
+use Rattle.corner_word.proofs.Multiples.{IsMarkedUpTo}
+use Rattle.corner_word.proofs.marks.mark_multiples.Given as goal
+
+abbrev pub invariant-loop-r : goal.invariant-loop-r
+invariant-loop-r l = IsMarkedUpTo l.table.n l.table.d l.initial.marks l.lead l.marks l.r

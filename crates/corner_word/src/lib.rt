@@ -1,0 +1,9 @@
+//! The highest corner of leads in a local order, by the ranks of monomials of bounded degree.
+#![tactic(auto)]
+
+mod cover;
+mod marks;
+#[cfg(test)]
+mod tests;
+
+pub use cover::Cover;
