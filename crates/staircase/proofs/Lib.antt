@@ -9,3 +9,6 @@ pub mod Fits
 pub mod Leads
 pub mod Divisors
 pub mod Quotient
+pub mod Decided
+pub mod Degrees
+pub mod Picks

@@ -1,2 +1,3 @@
 pub mod Monomial
 pub mod Quotient
+pub mod Stair

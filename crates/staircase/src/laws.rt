@@ -1,12 +1,15 @@
 //! The laws of reduced bases, staircases and leads.
 //! Each is a call that does nothing, and whose contract is the law.
 
-ghost use Rattle.std.specs.Prelude.{◌≡◌, ◌↔◌, ◌<◌, ◌≤◌, ℕ, List, [], length, All, Contains};
+ghost use Rattle.std.specs.Prelude.{◌≡◌, ◌↔◌, ◌+◌, ◌-◌, ◌<◌, ◌≤◌, ℕ, List, [], length, All, Contains, IsTrue, slice_get, Some};
 ghost use Rattle.prime_field.specs.Prime.{IsPrime};
 ghost use Rattle.local_order.specs.Mono.{degree, Divides};
 ghost use Rattle.sparse_poly.specs.Poly.{Poly, IsIn};
 ghost use Rattle.sparse_poly.specs.Ideal.{Problem, IsInIdeal, IsLeadOfIdeal, IsStaircase, Fits, IsFirstMissing, IsReducedBasis, leads_of};
 ghost use Rattle.sparse_poly.specs.Span.{Agree};
+ghost use Rattle.mono_rank.specs.Rank.{HasRank};
+ghost use Rattle.mono_rank.specs.Cover.{IsCorner};
+ghost use Rattle.staircase.specs.Stair.{IsStairOf, is_of_degree};
 ghost use Rattle.staircase.specs.Monomial.{monomial};
 ghost use Rattle.staircase.specs.Quotient.{IsMadeOf, HasRemainder};
 
@@ -63,4 +66,17 @@ pub fn staircase_is_a_basis()
     ensures spanning { (P : Problem) (G : List Poly) (s : List (List ℕ)) (f : Poly) → IsPrime P.p → All (IsIn P.n) P.gens
         → IsReducedBasis P G → IsStaircase P s → IsIn P.n f
         → HasRemainder P s f }
+{}
+
+/// The last rank of the staircase of leads is their corner less one, and there is none exactly where the corner is 0.
+pub fn corner_last()
+    ensures none { (n d : ℕ) (leads ranks : List ℕ) (w : ℕ) → 1 ≤ n → IsStairOf n d leads ranks → IsCorner n d leads w
+        → (ranks ≡ []) ↔ (w ≡ 0) }
+    ensures last { (n d : ℕ) (leads ranks : List ℕ) (w r : ℕ) → 1 ≤ n → IsStairOf n d leads ranks → IsCorner n d leads w
+        → slice_get ranks (length ranks - 1) ≡ Some r → r + 1 ≡ w }
+{}
+
+/// The ranks that count as those of a degree are the ranks of the monomials of that degree.
+pub fn ranks_of_a_degree()
+    ensures { (n d : ℕ) (m : List ℕ) (r e : ℕ) → 1 ≤ n → HasRank n d m r → IsTrue (is_of_degree n e r) ↔ (degree m ≡ e) }
 {}

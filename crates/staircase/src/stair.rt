@@ -1,0 +1,94 @@
+//! The staircase of leads: the monomials that are multiples of none of them.
+
+ghost use Rattle.std.specs.Prelude.{◌≡◌, ℕ, ◌-◌, ◌<◌, All, Contains, IsTrue, length, count_by, slice_get, IfOk, MatchOption};
+ghost use Rattle.local_order.specs.Count.{monomial_count};
+ghost use Rattle.staircase.specs.Stair.{IsStairOf, is_of_degree, IsLeastOfDegree};
+
+use crate::pick::{count_between, first_from, first_ranks, non_multiples};
+use mono_rank::RankTable;
+use std::alloc::{AllocError, Global};
+use std::marker::Model;
+
+/// The ranks of the monomials that are multiples of no lead, rising.
+/// A contract sees the number of variables, the greatest degree and the ranks.
+#[derive(Drop)]
+pub struct Stair {
+    n: u32,
+    d: u32,
+    ranks: Vec<u32>,
+    firsts: Vec<u32>,
+}
+
+impl Model for Stair {
+    ghost use Rattle.staircase.specs.Stair.{Stairs, IsKept};
+
+    ghost Value = { Stairs };
+
+    ghost view = { λ s. record { n = s.n; d = s.d; ranks = s.ranks.items } };
+
+    ghost invariant = { λ s. IsKept s.n s.d s.ranks.items s.firsts.items };
+}
+
+impl Stair {
+    /// The staircase of leads, which are ranks of a table. It costs a test of each lead at each rank.
+    pub fn of(alloc: Global, table: &RankTable, leads: &[u32]) -> Result<Stair, AllocError>
+        requires { All (λ l. l < monomial_count table.now.n table.now.d) leads.now }
+        ensures variables { IfOk result (λ s. s.n ≡ table.now.n) }
+        ensures degree { IfOk result (λ s. s.d ≡ table.now.d) }
+        ensures ranks { IfOk result (λ s. IsStairOf table.now.n table.now.d leads.now s.ranks) }
+    {
+        let n = table.mono(0).n();
+        let d = table.degree_of(table.count() - 1);
+        let ranks = non_multiples(alloc, table, leads)?;
+        let firsts = first_ranks(alloc, table, d)?;
+        Ok(Stair {
+            n,
+            d,
+            ranks,
+            firsts,
+        })
+    }
+
+    /// The ranks, rising.
+    pub fn list(&self) -> &[u32]
+        ensures { result.now ≡ self.now.ranks }
+    {
+        &self.ranks
+    }
+
+    /// How many ranks there are: the dimension of the quotient.
+    pub fn dimension(&self) -> u32
+        ensures { result ≡ length self.now.ranks }
+    {
+        self.ranks.len() as u32
+    }
+
+    /// The last rank. There is none exactly where there are no ranks.
+    pub fn corner(&self) -> Option<u32>
+        ensures { result ≡ slice_get self.now.ranks (length self.now.ranks - 1) }
+    {
+        self.ranks.last().copied()
+    }
+
+    /// How many ranks have a degree.
+    pub fn count(&self, degree: u32) -> u32
+        ensures { result ≡ count_by (is_of_degree self.now.n degree) self.now.ranks }
+    {
+        if degree > self.d {
+            return 0;
+        }
+        let low = self.firsts[degree as usize];
+        let high = self.firsts[degree as usize + 1];
+        count_between(&self.ranks, low, high) as u32
+    }
+
+    /// The least rank of the greatest degree. There is none exactly where each rank has a lesser degree.
+    pub fn first_missing(&self) -> Option<u32>
+        ensures { MatchOption result
+            ((r : ℕ) → Contains self.now.ranks r → ¬ IsTrue (is_of_degree self.now.n self.now.d r))
+            (IsLeastOfDegree self.now.n self.now.d self.now.ranks) }
+    {
+        let low = self.firsts[self.d as usize];
+        first_from(&self.ranks, low)
+    }
+}
