@@ -7,7 +7,7 @@ use Rattle.std.proofs.lemmas.List.{ext_get_or, get_or_past, get_or-replicate, ge
 use Rattle.local_order.specs.Mono.{degree, mono_one, mono_times, mono_quotient, mono_lcm, Divides, IsCoprime, divides, coprime}
 use Rattle.local_order.specs.Order.{IsAbove}
 use Rattle.local_order.specs.Stored.{zero_at}
-use Rattle.local_order.proofs.Order.{degree-mono_times, length-mono_times, length-mono_quotient, mono_times-mono_quotient, divides-mono_times}
+use Rattle.local_order.proofs.Order.{degree-mono_times, length-mono_times, length-mono_quotient, mono_times-mono_quotient, divides-mono_times, mono_times_comm}
 use Rattle.local_order.proofs.Places.{get_or-mono_times, get_or-mono_quotient, get_or-mono_lcm, length-mono_lcm, get_or-le-degree, degree_zero}
 
 -- ---- divisors
@@ -116,6 +116,10 @@ one_of_degree a e =
 pub mono_times-one : (a : List ℕ) → mono_times a (mono_one (length a)) ≡ a
 mono_times-one [] = refl
 mono_times-one (x ∷ a) = ap₂ ◌∷◌ (add-zero x) (mono_times-one a)
+
+-- on either side
+pub one_times : (n : ℕ) (a : List ℕ) → length a ≡ n → mono_times (mono_one n) a ≡ a
+one_times n a e = mono_times_comm (mono_one n) a ∙ ap (λ k. mono_times a (mono_one k)) (sym e) ∙ mono_times-one a
 
 -- ---- division and the order
 -- 1 is above each other monomial

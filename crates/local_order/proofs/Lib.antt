@@ -2,6 +2,7 @@ pub mod Order
 pub mod Prefix
 pub mod Places
 pub mod Division
+pub mod Quotients
 pub mod Stored
 pub mod Pairs
 pub mod Count

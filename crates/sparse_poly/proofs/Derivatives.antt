@@ -9,8 +9,8 @@ use Rattle.std.proofs.lemmas.List.{take-replicate, length-replicate, append-nil}
 use Rattle.prime_field.proofs.Residue.{mul_same}
 use Rattle.local_order.specs.Mono.{mono_one, mono_times, mono_quotient, Divides, same}
 use Rattle.local_order.specs.Order.{IsAbove}
-use Rattle.local_order.proofs.Order.{same-true, same_self, same-false, above_cases, above_irrefl, above_trans, above-mono_times, mono_times_comm}
-use Rattle.local_order.proofs.Division.{mono_times-one}
+use Rattle.local_order.proofs.Order.{same-true, same_self, same-false, above_cases, above_irrefl, above_trans, above-mono_times}
+use Rattle.local_order.proofs.Division.{one_times}
 use Rattle.sparse_poly.specs.Poly.{Term, Poly, total, lowered, derivative, IsIn, IsCanonical}
 use Rattle.sparse_poly.specs.Canonical.{canonical, in_front}
 use Rattle.sparse_poly.proofs.Images.{images, each, images_are, images-more, term_at, KeepsOrder}
@@ -45,7 +45,7 @@ quotient-lowered (x ∷ m) (suc i) l = cons_same (x - 0) x _ _ (omega arith) (qu
 -- and times the variable it is the monomial again
 pub lowered-times : (m : List ℕ) (i : ℕ) → i < length m → 1 ≤ slice_index m i → mono_times (variable_of (length m) i) (lowered i m) ≡ m
 lowered-times [] i l h = absurd (omega arith)
-lowered-times (x ∷ m) zero l h = cons_same (1 + (x - 1)) x _ _ (omega arith) (mono_times_comm (mono_one (length m)) m ∙ mono_times-one m)
+lowered-times (x ∷ m) zero l h = cons_same (1 + (x - 1)) x _ _ (omega arith) (one_times (length m) m refl)
 lowered-times (x ∷ m) (suc i) l h = cons_same (0 + x) x _ _ (omega arith) (lowered-times m i (omega arith) h)
 
 -- the quotient has as many exponents

@@ -5,7 +5,7 @@ use Rattle.std.proofs.lemmas.List.{take-append-drop, append-nil, length-replicat
 use Rattle.std.proofs.Math.Nat.{zero-mod, mul-mod_right}
 use Rattle.local_order.specs.Mono.{degree, mono_one, mono_times, same}
 use Rattle.local_order.proofs.Order.{mono_times_comm}
-use Rattle.local_order.proofs.Division.{mono_times-one}
+use Rattle.local_order.proofs.Division.{one_times}
 use Rattle.sparse_poly.specs.Poly.{Term, Poly, total, cut, term_times, times, one, power, IsIn, IsSame, IsCanonical}
 use Rattle.sparse_poly.specs.Canonical.{canonical}
 use Rattle.sparse_poly.specs.Ideal.{Problem}
@@ -60,7 +60,7 @@ pub term_times-one : (n : ℕ) (f : Poly) → IsIn n f → term_times 1 (mono_on
 term_times-one n [] i = refl
 term_times-one n (t ∷ f) i =
     term_cons (mono_times (mono_one n) t.mono) t.mono (1 * t.coef) t.coef _ f
-    (mono_times_comm (mono_one n) t.mono ∙ ap (λ k. mono_times t.mono (mono_one k)) (sym i.0) ∙ mono_times-one t.mono)
+    (one_times n t.mono i.0)
     (omega arith) (term_times-one n f i.1)
 
 -- 1 is neutral
