@@ -3,6 +3,11 @@ pub mod Places
 pub mod Steps
 pub mod Walk
 pub mod Ranks
+pub mod ByRank
 pub mod Listing
 pub mod Counts
 pub mod Looks
+pub mod Degrees
+pub mod Products
+pub mod Quotients
+pub mod Numbers

@@ -76,6 +76,13 @@ rank_low n d m e l =
       length-monomials n d,
     )
 
+pub rank_small : (n d : ℕ) (m : List ℕ) (r : ℕ) → HasRank n d m r → r < monomial_count n d
+rank_small n d m r h = omega (arith, rank_low n d m h.in_ring h.low, h.rank)
+
+-- a monomial has one rank
+pub one_rank : (n d : ℕ) (a b : List ℕ) (r s : ℕ) → HasRank n d a r → HasRank n d b s → a ≡ b → r ≡ s
+one_rank n d a b r s h k e = sym h.rank ∙ ap (rank_of n d) e ∙ k.rank
+
 -- numbers below N that rise N times are all numbers below N
 squeezed : (g : ℕ → ℕ) (N : ℕ) → ((r : ℕ) → suc r < N → g r < g (suc r)) → ((r : ℕ) → r < N → g r < N) → (r : ℕ) → r < N → g r ≡ r
 squeezed g N rise low r l = omega (arith, least r l, most (N - suc r) r (omega arith))

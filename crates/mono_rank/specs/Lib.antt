@@ -3,3 +3,4 @@ pub mod Next
 pub mod Stored
 pub mod Table
 pub mod Cover
+pub mod Laws

@@ -2,7 +2,7 @@
 
 ghost use Rattle.std.specs.Prelude.{◌≡◌, ◌+◌, ◌*◌, ◌<◌, ◌≤◌, length, IfOk};
 ghost use Rattle.local_order.specs.Mono.{degree, IsWithinLimits};
-ghost use Rattle.local_order.specs.Count.{monomial_count};
+ghost use Rattle.local_order.specs.Count.{monomial_count as number_of_monomials};
 ghost use Rattle.mono_rank.specs.Stored.{HasCounts, ListsRanks};
 ghost use Rattle.mono_rank.specs.Next.{next};
 
@@ -10,10 +10,10 @@ use local_order::Mono;
 use std::alloc::{AllocError, Global};
 
 /// How many monomials in `n` variables have degree at most `d`.
-pub(crate) fn count_of(n: u32, d: u32) -> u64
+pub fn monomial_count(n: u32, d: u32) -> u64
     requires few { n ≤ 8 }
     requires low { d ≤ 255 }
-    ensures { result ≡ monomial_count n d }
+    ensures { result ≡ number_of_monomials n d }
 {
     let mut count = 1;
     for k in 0..n {
@@ -44,7 +44,7 @@ pub(crate) fn falling(alloc: Global, n: u32, d: u32, count: u32) -> Result<Vec<M
     requires some { 1 ≤ n }
     requires few { n ≤ 8 }
     requires low { d ≤ 255 }
-    requires count { count ≡ monomial_count n d }
+    requires count { count ≡ number_of_monomials n d }
     ensures { IfOk result (λ v. ListsRanks n d v.items) }
 {
     let mut all = Vec::new(alloc);

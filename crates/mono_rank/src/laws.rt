@@ -1,10 +1,11 @@
 //! The laws of ranks. Each is a call that does nothing, and whose contract is the law.
 
-ghost use Rattle.std.specs.Prelude.{◌≡◌, ◌↔◌, ◌<◌, ◌≤◌, ℕ, List, length};
-ghost use Rattle.local_order.specs.Mono.{degree};
+ghost use Rattle.std.specs.Prelude.{◌≡◌, ◌↔◌, ◌+◌, ◌*◌, ◌%◌, ◌<◌, ◌≤◌, ℕ, Bool, List, Some, length, IsTrue};
+ghost use Rattle.local_order.specs.Mono.{degree, mono_times, Divides};
 ghost use Rattle.local_order.specs.Order.{IsAbove};
 ghost use Rattle.local_order.specs.Count.{monomial_count};
 ghost use Rattle.mono_rank.specs.Rank.{rank_of, HasRank, fewer, mono_at, ListsMonomials};
+ghost use Rattle.mono_rank.specs.Laws.{IsDegreeOrder, Numbering, IsNumbering, numbering, IsRanks, ranks_of};
 
 /// Ranks turn the order round: the greater monomial has the lesser rank.
 pub fn rank_turns_the_order()
@@ -34,4 +35,29 @@ pub fn degrees_are_runs_of_ranks()
 /// The rank doesn't depend on the bound of the degrees.
 pub fn tables_agree()
     ensures { (n d e : ℕ) (m : List ℕ) (r : ℕ) → 1 ≤ n → HasRank n d m r → degree m ≤ e → HasRank n e m r }
+{}
+
+/// The order ds goes by degree first, and the ranks of a table number the monomials by it.
+pub fn ranks_number_the_monomials()
+    ensures order { (n : ℕ) → IsDegreeOrder n IsAbove }
+    ensures ranks { (n d : ℕ) → 1 ≤ n → IsNumbering n d IsAbove (numbering n d) }
+{}
+
+/// Numbers of monomials by any order that goes by degree first have the laws of products, quotients and least common multiples.
+/// The order is given by a test, since a clause can't range over relations. The order ds is one of them, and ranks are numbers by it.
+pub fn ranks_compute()
+    ensures any_order { (n d p : ℕ) (inv : ℕ → ℕ) (above : List ℕ → List ℕ → Bool) (O : Numbering) → IsDegreeOrder n (λ a b. IsTrue (above a b))
+        → IsNumbering n d (λ a b. IsTrue (above a b)) O → 0 < p → ((c : ℕ) → (c % p ≡ 0 → ⊥) → (inv c * c) % p ≡ 1 % p) → IsRanks (ranks_of p inv d O) }
+    ensures ds { (n d p : ℕ) (inv : ℕ → ℕ) → 1 ≤ n → 0 < p → ((c : ℕ) → (c % p ≡ 0 → ⊥) → (inv c * c) % p ≡ 1 % p)
+        → IsRanks (ranks_of p inv d (numbering n d)) }
+{}
+
+/// What a table answers is what these laws speak of.
+pub fn products_are_by_rank()
+    ensures inside { (n d p : ℕ) (inv : ℕ → ℕ) (x y : List ℕ) (a b r : ℕ) → 1 ≤ n → HasRank n d x a → HasRank n d y b
+        → HasRank n d (mono_times x y) r ↔ ((ranks_of p inv d (numbering n d)).times a b ≡ r) × (r < monomial_count n d) }
+    ensures outside { (n d p : ℕ) (inv : ℕ → ℕ) (x y : List ℕ) (a b : ℕ) → 1 ≤ n → HasRank n d x a → HasRank n d y b
+        → (d < degree (mono_times x y)) ↔ ((ranks_of p inv d (numbering n d)).times a b ≡ monomial_count n d) }
+    ensures quotient { (n d p : ℕ) (inv : ℕ → ℕ) (x y : List ℕ) (a b : ℕ) → 1 ≤ n → HasRank n d x a → HasRank n d y b
+        → Divides x y ↔ ((s : ℕ) × ((ranks_of p inv d (numbering n d)).over b a ≡ Some s)) }
 {}

@@ -8,4 +8,5 @@ mod table;
 #[cfg(test)]
 mod tests;
 
+pub use build::monomial_count;
 pub use table::{MAX_MONOMIALS, RankError, RankTable};

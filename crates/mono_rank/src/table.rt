@@ -7,7 +7,7 @@ ghost use Rattle.mono_rank.specs.Rank.{HasRank, fewer};
 ghost use Rattle.mono_rank.specs.Stored.{HasLimits};
 ghost use Rattle.mono_rank.specs.Table.{IsRefusal};
 
-use crate::build::{count_of, counts_below, falling};
+use crate::build::{counts_below, falling, monomial_count as count_of};
 use crate::place::place_of;
 use local_order::Mono;
 use std::alloc::Global;

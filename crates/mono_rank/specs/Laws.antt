@@ -1,0 +1,77 @@
+-- Monomials of degree at most d by rank, with their products, for any order that goes by degree first: the laws that
+-- computing with rows of residues rests on. Ours.
+use Rattle.std.specs.Prelude.{◌≡◌, ℕ, ◌+◌, ◌*◌, ◌%◌, ◌<◌, ◌≤◌, ◌⊎◌, ◌&&◌, List, length, Option, Some, None, cond, ltb, leb}
+use Rattle.local_order.specs.Mono.{degree, mono_times, mono_quotient, divides}
+use Rattle.local_order.specs.Count.{monomial_count}
+use Rattle.mono_rank.specs.Rank.{rank_of, mono_of_rank}
+
+-- a total order of the monomials in n variables that goes by degree first, the lesser degree being above, and that products keep
+pub record IsDegreeOrder (n : ℕ) (Above : List ℕ → List ℕ → Type 0) : Type 0 where
+  pub irreflexive : (a : List ℕ) → Above a a → ⊥
+  pub transitive : (a b c : List ℕ) → Above a b → Above b c → Above a c
+  pub total : (a b : List ℕ) → length a ≡ n → length b ≡ n → (a ≡ b) ⊎ (Above a b ⊎ Above b a)
+  pub by_degree : (a b : List ℕ) → degree a < degree b → Above a b
+  pub degrees : (a b : List ℕ) → Above a b → degree a ≤ degree b
+  pub products : (c a b : List ℕ) → length c ≡ n → length a ≡ n → length b ≡ n → Above a b → Above (mono_times c a) (mono_times c b)
+
+-- how many there are, the monomial of a rank and the rank of a monomial
+pub record Numbering : Type 0 where
+  pub count : ℕ
+  pub mono : ℕ → List ℕ
+  pub rank : List ℕ → ℕ
+
+-- O numbers the monomials in n variables of degree at most d, the greatest first
+pub record IsNumbering (n d : ℕ) (Above : List ℕ → List ℕ → Type 0) (O : Numbering) : Type 0 where
+  pub in_ring : (r : ℕ) → r < O.count → length (O.mono r) ≡ n
+  pub low : (r : ℕ) → r < O.count → degree (O.mono r) ≤ d
+  pub small : (m : List ℕ) → length m ≡ n → degree m ≤ d → O.rank m < O.count
+  pub there : (m : List ℕ) → length m ≡ n → degree m ≤ d → O.mono (O.rank m) ≡ m
+  pub back : (r : ℕ) → r < O.count → O.rank (O.mono r) ≡ r
+  pub falls : (a b : List ℕ) → length a ≡ n → degree a ≤ d → length b ≡ n → degree b ≤ d → Above a b → O.rank a < O.rank b
+
+-- the numbering by rank
+abbrev pub numbering : ℕ → ℕ → Numbering
+numbering n d = record { count = monomial_count n d; mono = mono_of_rank n d; rank = rank_of n d }
+
+-- the rank of a product, and the number of monomials where its degree is above d
+abbrev pub rank_times : ℕ → Numbering → ℕ → ℕ → ℕ
+rank_times d O a b = cond (ltb a O.count && (ltb b O.count && leb (degree (O.mono a) + degree (O.mono b)) d)) (O.rank (mono_times (O.mono a) (O.mono b))) O.count
+
+-- the rank of the quotient of the monomial of rank r by that of rank a, where it divides
+abbrev pub rank_over : Numbering → ℕ → ℕ → Option ℕ
+rank_over O r a = cond (ltb r O.count && (ltb a O.count && divides (O.mono a) (O.mono r))) (Some (O.rank (mono_quotient (O.mono r) (O.mono a)))) None
+
+-- the rank of what the monomial of rank a lacks to its least common multiple with that of rank b
+abbrev pub rank_cofactor : Numbering → ℕ → ℕ → ℕ
+rank_cofactor O a b = cond (ltb a O.count && ltb b O.count) (O.rank (mono_quotient (O.mono b) (O.mono a))) O.count
+
+-- Residues modulo p and monomials by rank: n is the number of monomials, a product beyond degree d is n or more,
+-- `over r a` is r / a where a divides r, `co a b` is the least common multiple of a and b divided by a, `inv c` is an inverse of c.
+pub record Ranks : Type 0 where
+  pub p : ℕ
+  pub n : ℕ
+  pub times : ℕ → ℕ → ℕ
+  pub over : ℕ → ℕ → Option ℕ
+  pub co : ℕ → ℕ → ℕ
+  pub degree : ℕ → ℕ
+  pub inv : ℕ → ℕ
+
+-- the laws that all computing by rank uses
+pub record IsRanks (R : Ranks) : Type 0 where
+  pub prime_pos : 0 < R.p
+  pub some : 0 < R.n
+  pub inverse : (c : ℕ) → (c % R.p ≡ 0 → ⊥) → (R.inv c * c) % R.p ≡ 1 % R.p
+  pub comm : (a b : ℕ) → R.times a b ≡ R.times b a
+  pub assoc : (a b c : ℕ) → R.times (R.times a b) c ≡ R.times a (R.times b c)
+  pub unit : (a : ℕ) → a < R.n → R.times 0 a ≡ a
+  pub le : (a b : ℕ) → R.times a b < R.n → b ≤ R.times a b
+  pub grows : (a b c : ℕ) → b < c → R.times a c < R.n → R.times a b < R.times a c
+  pub over_is : (r a s : ℕ) → R.over r a ≡ Some s → R.times a s ≡ r
+  pub is_over : (a s : ℕ) → R.times a s < R.n → R.over (R.times a s) a ≡ Some s
+  pub lcm : (a b : ℕ) → R.times a (R.co a b) ≡ R.times b (R.co b a)
+  pub least : (a b x y : ℕ) → R.times a x < R.n → R.times a x ≡ R.times b y
+      → (c : ℕ) × (R.times c (R.co a b) ≡ x) × (R.times c (R.co b a) ≡ y)
+
+-- the ranks of a numbering, with residues modulo p and their inverses
+abbrev pub ranks_of : ℕ → (ℕ → ℕ) → ℕ → Numbering → Ranks
+ranks_of p inv d O = record { p = p; n = O.count; times = rank_times d O; over = rank_over O; co = rank_cofactor O; degree = λ r. degree (O.mono r); inv = inv }
