@@ -1,0 +1,5 @@
+pub mod Residues
+pub mod Multiples
+pub mod Polynomials
+mod Writing
+mod Cuts

@@ -1,0 +1,79 @@
+//! The loops over the residues of rows.
+
+ghost use Rattle.std.specs.Prelude.{◌≡◌, ℕ, ◌<◌, length};
+ghost use Rattle.local_order.specs.Count.{monomial_count};
+ghost use Rattle.sparse_poly.specs.Poly.{IsCanonical};
+ghost use Rattle.trunc_row.specs.Rows.{IsRow, IsScaled, Subtracts, SubtractsMultiple};
+ghost use Rattle.trunc_row.specs.Polynomials.{IsRowOf, IsWritten};
+
+use mono_rank::RankTable;
+use prime_field::Field;
+use sparse_poly::Poly;
+
+/// Writes the coefficients of a polynomial at the places of their ranks, and 0 elsewhere.
+pub(crate) fn write(row: &mut [u32], table: &RankTable, poly: &Poly)
+    requires places { length row.old ≡ monomial_count table.now.n table.now.d }
+    requires variables { poly.now.n ≡ table.now.n }
+    requires written { IsWritten table.now.n poly.now.terms }
+    ensures { (p : ℕ) → 0 < p → IsCanonical p table.now.n poly.now.terms → IsRowOf p table.now.n table.now.d poly.now.terms row.new }
+{
+    row.fill(0);
+    for term in poly.terms() {
+        if let Some(rank) = table.rank(&term.mono) {
+            row[rank as usize] = term.coef;
+        }
+    }
+}
+
+/// Subtracts `c` times another row.
+pub(crate) fn subtract(field: &Field, row: &mut [u32], c: u32, other: &[u32])
+    requires own { IsRow field.now (length other.now) row.old }
+    requires other { IsRow field.now (length other.now) other.now }
+    requires residue { c < field.now }
+    ensures { Subtracts field.now c other.now row.old row.new }
+{
+    let factor = field.neg(c);
+    for k in 0..row.len() {
+        if other[k] != 0 {
+            row[k] = field.add(row[k], field.mul(factor, other[k]));
+        }
+    }
+}
+
+/// Subtracts `c` times the multiple of another row by the monomial of rank `shift`. By the monomial 1, [`subtract`] costs less.
+pub(crate) fn subtract_shifted(
+    row: &mut [u32],
+    table: &RankTable,
+    field: &Field,
+    c: u32,
+    shift: u32,
+    other: &[u32],
+)
+    requires own { IsRow field.now (monomial_count table.now.n table.now.d) row.old }
+    requires other { IsRow field.now (monomial_count table.now.n table.now.d) other.now }
+    requires residue { c < field.now }
+    requires shift { shift < monomial_count table.now.n table.now.d }
+    ensures { SubtractsMultiple field.now table.now.n table.now.d c shift other.now row.old row.new }
+{
+    let factor = field.neg(c);
+    for rank in 0..table.count() {
+        let coef = other[rank as usize];
+        if coef != 0 {
+            if let Some(product) = table.times_rank(shift, rank) {
+                let place = product as usize;
+                row[place] = field.add(row[place], field.mul(factor, coef));
+            }
+        }
+    }
+}
+
+/// Multiplies each residue.
+pub(crate) fn multiply(field: &Field, row: &mut [u32], c: u32)
+    requires row { IsRow field.now (length row.old) row.old }
+    requires residue { c < field.now }
+    ensures { IsScaled field.now c row.old row.new }
+{
+    for k in row.iter_mut() {
+        *k = field.mul(c, *k);
+    }
+}
