@@ -6,7 +6,7 @@ use Rattle.std.proofs.lemmas.List.{map_push}
 use Rattle.std.proofs.lemmas.List.Elements.{All-push, Contains-push_cases}
 use Rattle.sparse_poly.specs.Poly.{Poly, Polynomial}
 use Rattle.sparse_poly.specs.Ideal.{Problem, IsFalling, IsReducedMember, IsReducedBasis, lead_of, leads_of}
-use Rattle.elimination.specs.Rows.{mono_at}
+use Rattle.mono_rank.specs.Rank.{mono_at}
 use Rattle.elimination.specs.Pivots.{Rows}
 use Rattle.elimination.specs.Echelon.{IsEchelonForm}
 use Rattle.elimination.specs.Places.{IsMinimalAt, Chooses, IsMemberAt}

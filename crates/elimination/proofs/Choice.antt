@@ -6,7 +6,7 @@ use Rattle.std.proofs.lemmas.List.Elements.{Contains-append_left, Contains-push,
 use Rattle.std.specs.List.{Contains}
 use Rattle.local_order.specs.Order.{IsAbove}
 use Rattle.sparse_poly.specs.Ideal.{IsFalling}
-use Rattle.elimination.specs.Rows.{mono_at}
+use Rattle.mono_rank.specs.Rank.{mono_at}
 use Rattle.elimination.specs.Places.{Chooses}
 use Rattle.elimination.proofs.Falling.{falling_at, falling_push}
 

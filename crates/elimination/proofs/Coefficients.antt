@@ -9,8 +9,8 @@ use Rattle.sparse_poly.specs.Ideal.{Problem, IsFalling}
 use Rattle.sparse_poly.proofs.Coef.{total-append}
 use Rattle.sparse_poly.proofs.Member.{Agree}
 use Rattle.sparse_poly.proofs.Span.{scale, linear, total-scale}
-use Rattle.elimination.specs.Monomials.{ListsMonomials}
-use Rattle.elimination.specs.Rows.{mono_at, polynomial_of}
+use Rattle.mono_rank.specs.Rank.{mono_at, ListsMonomials}
+use Rattle.elimination.specs.Rows.{polynomial_of}
 use Rattle.elimination.specs.Pivots.{Rows, row_at, combined}
 use Rattle.elimination.proofs.Falling.{falling_at, falling_tail, at_of_contains, contains_at}
 

@@ -5,11 +5,11 @@ use Rattle.std.specs.List.{Contains}
 use Rattle.local_order.specs.Mono.{degree, Divides}
 use Rattle.local_order.specs.Order.{IsAbove}
 use Rattle.sparse_poly.specs.Ideal.{Problem, IsLeadOfIdeal, IsStaircase, Fits, IsFirstMissing, IsMinimalLead}
-use Rattle.elimination.specs.Rows.{mono_at}
+use Rattle.mono_rank.specs.Rank.{mono_at}
 use Rattle.elimination.specs.Pivots.{Rows, row_at}
 use Rattle.elimination.specs.Echelon.{IsEchelonForm}
 use Rattle.elimination.specs.Places.{HasRowAt, HasNoneAt, IsMinimalAt, Chooses}
-use Rattle.elimination.proofs.Falling.{falling_before, falling_once, at_of_contains}
+use Rattle.elimination.proofs.Falling.{falling_before, falling_once, at_of_contains, falling_list}
 use Rattle.elimination.proofs.Coefficients.{listed}
 use Rattle.elimination.proofs.Leads.{HasRow, lead_of_row, row_of_ideal, none_of_none}
 
@@ -81,7 +81,7 @@ module _ (P : Problem) (ms : List (List ℕ)) (rows : Rows) (form : IsEchelonFor
     where
       go : (k : List ℕ) → degree k ≡ P.d → IsAbove k (mono_at ms i) → (j : ℕ) × (j < length ms) × (mono_at ms j ≡ k) → IsLeadOfIdeal P k
       go k e a (j, jl, s) =
-          let earlier : j < i = falling_before ms j i form.monomials.falling jl l (subst (λ x. IsAbove x (mono_at ms i)) (sym s) a) in
+          let earlier : j < i = falling_before ms j i (falling_list form.monomials) jl l (subst (λ x. IsAbove x (mono_at ms i)) (sym s) a) in
           let r = h j earlier (ap degree s ∙ e) in
           subst (λ x. IsLeadOfIdeal P x) s (lead_of_row P ms rows form j r.0 jl r.1)
 
@@ -111,4 +111,4 @@ module _ (P : Problem) (ms : List (List ℕ)) (rows : Rows) (form : IsEchelonFor
           least : (x : HasRow ms rows m) (k : ℕ) → k < length ms → HasRowAt rows k → Divides (mono_at ms k) (mono_at ms x.place) → k ≡ x.place
           least x k kl r d =
               let same : mono_at ms k ≡ m = lead.least (mono_at ms k) (listed P.n P.d ms k form.monomials kl).0 (subst (λ z. Divides (mono_at ms k) z) x.same d) (lead_of_row P ms rows form k r.0 kl r.1) in
-              falling_once ms k x.place form.monomials.falling kl x.within (same ∙ sym x.same)
+              falling_once ms k x.place (falling_list form.monomials) kl x.within (same ∙ sym x.same)

@@ -9,7 +9,7 @@ use Rattle.local_order.specs.Order.{IsAbove}
 use Rattle.local_order.specs.Mono.{same}
 use Rattle.local_order.proofs.Order.{above_trans, above_irrefl, same_self, same-true}
 use Rattle.sparse_poly.specs.Ideal.{IsFalling}
-use Rattle.elimination.specs.Rows.{mono_at}
+use Rattle.mono_rank.specs.Rank.{mono_at, ListsMonomials}
 
 -- the first is above each other
 head_above : (a : List ℕ) (s : List (List ℕ)) (k : ℕ) → IsFalling (a ∷ s) → k < length s → IsAbove a (mono_at s k)
@@ -87,3 +87,13 @@ place_cases (a ∷ s) m = go (same a m) refl (place_cases s m)
         other : (j : ℕ) → j < suc (length s) → mono_at (a ∷ s) j ≢ m
         other zero l h = let t : same a m ≡ true = ap (λ x. same x m) h ∙ same_self m in cc
         other (suc j) l h = n j (omega arith) h
+
+-- a list whose earlier ones are above its later ones falls
+falls : (s : List (List ℕ)) → ((i j : ℕ) → i < j → j < length s → IsAbove (mono_at s i) (mono_at s j)) → IsFalling s
+falls [] h = tt
+falls (a ∷ []) h = tt
+falls (a ∷ b ∷ s) h = (h 0 1 (omega arith) (omega arith), falls (b ∷ s) (λ i j l k. h (suc i) (suc j) (omega arith) (omega arith)))
+
+-- a list of all monomials falls
+pub falling_list : {n d : ℕ} {s : List (List ℕ)} → ListsMonomials n d s → IsFalling s
+falling_list {n} {d} {s} h = falls s h.falling

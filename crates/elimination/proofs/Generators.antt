@@ -1,6 +1,6 @@
 -- The generators of a problem are canonical polynomials in its variables, and its prime is at least 2.
 -- All of it is read off the limits of a problem.
-use Rattle.std.proofs.Common.{◌≡◌, ℕ, ◌<◌, ◌≤◌, List, [], ◌∷◌, length, map, All, Some, sym, ◌∙◌, ap}
+use Rattle.std.proofs.Common.{◌≡◌, ℕ, ◌<◌, ◌≤◌, List, [], ◌∷◌, length, map, All, Some, sym, ◌∙◌}
 use Rattle.std.proofs.lemmas.List.{get_or-map}
 use Rattle.std.proofs.lemmas.List.Elements.{All-head, All-tail}
 use Rattle.std.proofs.lemmas.Option.{get_or_from_slice_get}
@@ -13,9 +13,8 @@ use Rattle.sparse_poly.proofs.Unique.{in_of_canonical}
 use Rattle.elimination.specs.Echelon.{generator}
 
 -- the generator that is lent
-pub generator_is : (P : Problem) (k : ℕ) (g : Polynomial) → k < length P.gens → slice_get (map (in_variables P.n) P.gens) k ≡ Some g → g.terms ≡ generator P k
-generator_is P k g l e =
-    ap (λ f. f.terms) (sym (get_or_from_slice_get (map (in_variables P.n) P.gens) k g (in_variables P.n []) e) ∙ get_or-map (in_variables P.n) P.gens k [] (in_variables P.n []) l)
+pub generator_lent : (P : Problem) (k : ℕ) (g : Polynomial) → k < length P.gens → slice_get (map (in_variables P.n) P.gens) k ≡ Some g → g ≡ in_variables P.n (generator P k)
+generator_lent P k g l e = sym (get_or_from_slice_get (map (in_variables P.n) P.gens) k g (in_variables P.n []) e) ∙ get_or-map (in_variables P.n) P.gens k [] (in_variables P.n []) l
 
 -- a generator is canonical
 pub generator_canonical : (P : Problem) (k : ℕ) → IsProblem P → k < length P.gens → IsCanonical P.p P.n (generator P k)

@@ -10,8 +10,9 @@ use Rattle.sparse_poly.specs.Ideal.{Problem, IsInIdeal}
 use Rattle.sparse_poly.proofs.Coef.{total-append}
 use Rattle.sparse_poly.proofs.Member.{IsInIdeal-add, IsInIdeal-agree}
 use Rattle.sparse_poly.proofs.Span.{scale, linear, total-scale}
-use Rattle.elimination.specs.Monomials.{ListsMonomials}
-use Rattle.elimination.specs.Rows.{mono_at, polynomial_of, HasCoefficients}
+use Rattle.mono_rank.specs.Rank.{mono_at, ListsMonomials}
+use Rattle.elimination.specs.Rows.{polynomial_of, HasCoefficients}
+use Rattle.elimination.proofs.Falling.{falling_list}
 use Rattle.elimination.specs.Pivots.{Rows, row_at, combined, ArePivots, IsCombination, IsMadeOf, Joins}
 use Rattle.elimination.specs.Echelon.{HasMultiples, AreMembers, Covers, generator}
 use Rattle.elimination.proofs.Coefficients.{polys_of, all_full, total-linear, total-polynomial_of, agree_at, listed}
@@ -53,8 +54,8 @@ made_in P ms rows f r s all pivots members inside value full made =
     same j l =
         let m = mono_at ms j in
         let g = linear made.factor (polys_of ms rows) in
-        let there : total g m ≡ combined made.factor rows j = total-linear made.factor ms rows j all.falling l (all_full (length ms) rows (λ i t e. (pivots.pivot i t e).row.full)) in
-        ap (λ x. x % P.p) (total-polynomial_of ms s j all.falling l full)
+        let there : total g m ≡ combined made.factor rows j = total-linear made.factor ms rows j (falling_list all) l (all_full (length ms) rows (λ i t e. (pivots.pivot i t e).row.full)) in
+        ap (λ x. x % P.p) (total-polynomial_of ms s j (falling_list all) l full)
         ∙ made.equation j l
         ∙ add_same P.p (made.times * get_or r j 0) (made.times * total f m) (combined made.factor rows j) (total g m)
         (mul_same P.p made.times made.times (get_or r j 0) (total f m) refl (ap (λ x. x % P.p) (value j l) ∙ mod-mod (total f m) P.p))
@@ -89,3 +90,16 @@ has_more P ms k j old rows r all kl jl h value joins pivots = record {
           factor = joins.covers.factor;
           equation = λ q ql. sym (mod-mod (total (term_times 1 (mono_at ms j) (generator P k)) (mono_at ms q)) P.p) ∙ ap (λ x. x % P.p) (sym (value q ql)) ∙ joins.covers.equation q ql;
         })
+
+-- where all multiples of a generator are made, the next one is begun
+pub has_next : (P : Problem) (ms : List (List ℕ)) (k j : ℕ) (rows : Rows) → length ms ≤ j → HasMultiples P ms k j rows → HasMultiples P ms (k + 1) 0 rows
+has_next P ms k j rows all h = record {
+  pivots = h.pivots;
+  members = h.members;
+  earlier = λ g l i m. covered g i m (cases_lt g k) l;
+  here = λ i l. absurd (omega arith);
+}
+  where
+    covered : (g i : ℕ) → i < length ms → (g < k) ⊎ (k ≤ g) → g < k + 1 → Covers P ms rows g i
+    covered g i m (inl a) l = h.earlier g a i m
+    covered g i m (inr a) l = let same : k ≡ g = omega arith in subst (λ x. Covers P ms rows x i) same (h.here i (omega arith))

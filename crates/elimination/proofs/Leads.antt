@@ -8,11 +8,11 @@ use Rattle.sparse_poly.specs.Poly.{Poly, total, coef, IsIn, cut, term_times}
 use Rattle.sparse_poly.specs.Ideal.{Problem, IsInIdeal, IsLeadOfIdeal}
 use Rattle.sparse_poly.proofs.Coef.{total-cut_in}
 use Rattle.sparse_poly.proofs.Span.{Span, Multiples, AllMultiples, IsMonic, linear, span_of_in}
-use Rattle.elimination.specs.Monomials.{ListsMonomials}
-use Rattle.elimination.specs.Rows.{mono_at, polynomial_of}
+use Rattle.mono_rank.specs.Rank.{mono_at, ListsMonomials}
+use Rattle.elimination.specs.Rows.{polynomial_of}
 use Rattle.elimination.specs.Pivots.{Rows, row_at, combined, IsPivot}
 use Rattle.elimination.specs.Echelon.{IsEchelonForm, generator}
-use Rattle.elimination.proofs.Falling.{falling_at, falling_before, falling_once, at_of_contains}
+use Rattle.elimination.proofs.Falling.{falling_at, falling_before, falling_once, at_of_contains, falling_list}
 use Rattle.elimination.proofs.Generators.{gens_in, two_up}
 use Rattle.elimination.proofs.Combined.{Stairs, row_of_lead}
 use Rattle.elimination.proofs.Coefficients.{polys_of, AllFull, all_full, total-linear, total-polynomial_of, in-polynomial_of, agree_at, listed}
@@ -24,7 +24,7 @@ pub monic_row : (P : Problem) (ms : List (List ℕ)) (i : ℕ) (r : List ℕ) �
 monic_row P ms i r two all l full before one = record {
   in_ring = (listed P.n P.d ms i all l).0;
   low = (listed P.n P.d ms i all l).1;
-  one = ap (λ x. x % P.p) (total-polynomial_of ms r i all.falling l full ∙ one) ∙ mod-eq_of_lt (omega arith);
+  one = ap (λ x. x % P.p) (total-polynomial_of ms r i (falling_list all) l full ∙ one) ∙ mod-eq_of_lt (omega arith);
   above = above;
 }
   where
@@ -33,9 +33,9 @@ monic_row P ms i r two all l full before one = record {
       where
         at : (j : ℕ) × (j < length ms) × (mono_at ms j ≡ k) → coef P.p (polynomial_of ms r) k ≡ 0
         at (j, jl, e) =
-            let earlier : j < i = falling_before ms j i all.falling jl l (subst (λ x. IsAbove x (mono_at ms i)) (sym e) a) in
+            let earlier : j < i = falling_before ms j i (falling_list all) jl l (subst (λ x. IsAbove x (mono_at ms i)) (sym e) a) in
             subst (λ x. coef P.p (polynomial_of ms r) x ≡ 0) e
-            (ap (λ x. x % P.p) (total-polynomial_of ms r j all.falling jl full ∙ before j earlier) ∙ zero-mod P.p)
+            (ap (λ x. x % P.p) (total-polynomial_of ms r j (falling_list all) jl full ∙ before j earlier) ∙ zero-mod P.p)
 
 -- the lead of a member with leading coefficient 1
 pub lead_of_monic : (P : Problem) (f : Poly) (m : List ℕ) → IsIn P.n f → IsInIdeal P f → IsMonic P f m → IsLeadOfIdeal P m
@@ -89,7 +89,7 @@ module _ (P : Problem) (ms : List (List ℕ)) (rows : Rows) (form : IsEchelonFor
           (record {
             factor = c.factor;
             equation = agree_at P ms (term_times 1 (mono_at ms j) (generator P k)) (linear c.factor (polys_of ms rows)) form.monomials
-                (λ i il. c.equation i il ∙ ap (λ x. x % P.p) (sym (total-linear c.factor ms rows i form.monomials.falling il rows_full)));
+                (λ i il. c.equation i il ∙ ap (λ x. x % P.p) (sym (total-linear c.factor ms rows i (falling_list form.monomials) il rows_full)));
           })
 
   -- a place with a row is that of a lead
@@ -117,12 +117,12 @@ module _ (P : Problem) (ms : List (List ℕ)) (rows : Rows) (form : IsEchelonFor
           equal j jl =
               let x = listed P.n P.d ms j form.monomials jl in
               ap (λ y. y % P.p) (total-cut_in P.d lead.member (mono_at ms j) x.1) ∙ s.equation (mono_at ms j) x.0 x.1
-              ∙ ap (λ y. y % P.p) (total-linear s.factor ms rows j form.monomials.falling jl rows_full)
+              ∙ ap (λ y. y % P.p) (total-linear s.factor ms rows j (falling_list form.monomials) jl rows_full)
 
           before : (j : ℕ) → j < 0 + i → total (cut P.d lead.member) (mono_at ms j) % P.p ≡ 0
           before j h =
               let x = listed P.n P.d ms j form.monomials (omega arith) in
-              lead.lead.greatest (mono_at ms j) x.0 (subst (λ y. IsAbove (mono_at ms j) y) e (falling_at ms j i form.monomials.falling (omega arith) l))
+              lead.lead.greatest (mono_at ms j) x.0 (subst (λ y. IsAbove (mono_at ms j) y) e (falling_at ms j i (falling_list form.monomials) (omega arith) l))
 
           some : total (cut P.d lead.member) (mono_at ms (0 + i)) % P.p ≢ 0
           some h = lead.lead.there (subst (λ x. total (cut P.d lead.member) x % P.p ≡ 0) (ap (mono_at ms) (zero-add i) ∙ e) h)
@@ -139,5 +139,5 @@ module _ (P : Problem) (ms : List (List ℕ)) (rows : Rows) (form : IsEchelonFor
     where
       go : HasRow ms rows (mono_at ms i) → ⊥
       go x =
-          let same : x.place ≡ i = falling_once ms x.place i form.monomials.falling x.within l x.same in
+          let same : x.place ≡ i = falling_once ms x.place i (falling_list form.monomials) x.within l x.same in
           let both : None ≡ Some x.row = sym e ∙ sym (ap (row_at rows) same) ∙ x.there in cc

@@ -1,13 +1,10 @@
-mod Next
 mod Falling
-mod Listing
-mod Search
-mod Writes
 mod Combined
 mod Remainders
 mod Reduction
 mod Generators
-mod Product
+mod Multiples
+mod Ranks
 mod Joining
 mod BasisLoop
 mod Terms

@@ -3,7 +3,7 @@
 use Rattle.std.proofs.Common.{◌≡◌, ℕ, ◌+◌, ◌<◌, ◌≤◌, List, [], length, get_or, true, false, Option, Some, None, is_some, Result, Ok, Err, IfOk, sym, ⊎_elim, subst, arith}
 use Rattle.std.proofs.lemmas.Bool.{cases_lt}
 use Rattle.std.proofs.lemmas.List.{get_or_read}
-use Rattle.elimination.specs.Rows.{mono_at}
+use Rattle.mono_rank.specs.Rank.{mono_at}
 use Rattle.elimination.specs.Pivots.{Rows}
 use Rattle.elimination.specs.Places.{HasRowAt, HasNoneAt}
 

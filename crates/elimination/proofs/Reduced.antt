@@ -13,11 +13,12 @@ use Rattle.sparse_poly.proofs.Coef.{total-append}
 use Rattle.sparse_poly.proofs.Member.{IsInIdeal-add, IsInIdeal-agree}
 use Rattle.sparse_poly.proofs.Span.{IsMonic, scale, linear, total-scale}
 use Rattle.sparse_poly.proofs.Unique.{total-above, total-head}
-use Rattle.elimination.specs.Rows.{mono_at, polynomial_of}
+use Rattle.mono_rank.specs.Rank.{mono_at}
+use Rattle.elimination.specs.Rows.{polynomial_of}
 use Rattle.elimination.specs.Pivots.{IsPivot, Rows, row_at, combined, IsRemainder, IsReduction}
 use Rattle.elimination.specs.Echelon.{IsEchelonForm}
 use Rattle.elimination.specs.Places.{IsMemberAt}
-use Rattle.elimination.proofs.Falling.{place_cases}
+use Rattle.elimination.proofs.Falling.{place_cases, falling_list}
 use Rattle.elimination.proofs.Coefficients.{polys_of, total-linear, total-polynomial_of, total-polynomial_of_off, agree_at, listed}
 use Rattle.elimination.proofs.Generators.{two_up}
 use Rattle.elimination.proofs.Members.{linear_in}
@@ -57,9 +58,9 @@ module _ (P : Problem) (ms : List (List ℕ)) (rows : Rows) (form : IsEchelonFor
           let g : Poly = linear h.factor (polys_of ms rows) in
           let x : ℕ = get_or s j 0 in
           let y : ℕ = combined h.factor rows j in
-          let here : total (polynomial_of ms s) (mono_at ms j) ≡ x = total-polynomial_of ms s j form.monomials.falling l sl in
-          let there : total (polynomial_of ms r) (mono_at ms j) ≡ get_or r j 0 = total-polynomial_of ms r j form.monomials.falling l rl in
-          let rest : total (scale (P.p - 1) g) (mono_at ms j) ≡ (P.p - 1) * y = total-scale (P.p - 1) g (mono_at ms j) ∙ ap (λ z. (P.p - 1) * z) (total-linear h.factor ms rows j form.monomials.falling l (rows_full P ms rows form)) in
+          let here : total (polynomial_of ms s) (mono_at ms j) ≡ x = total-polynomial_of ms s j (falling_list form.monomials) l sl in
+          let there : total (polynomial_of ms r) (mono_at ms j) ≡ get_or r j 0 = total-polynomial_of ms r j (falling_list form.monomials) l rl in
+          let rest : total (scale (P.p - 1) g) (mono_at ms j) ≡ (P.p - 1) * y = total-scale (P.p - 1) g (mono_at ms j) ∙ ap (λ z. (P.p - 1) * z) (total-linear h.factor ms rows j (falling_list form.monomials) l (rows_full P ms rows form)) in
           ap (λ z. z % P.p) here
           ∙ sym (ap (λ z. z % P.p) (total-append (polynomial_of ms r) (scale (P.p - 1) g) (mono_at ms j))
           ∙ add_same P.p (total (polynomial_of ms r) (mono_at ms j)) (x + y) (total (scale (P.p - 1) g) (mono_at ms j)) ((P.p - 1) * y)
@@ -125,7 +126,7 @@ module _ (P : Problem) (ms : List (List ℕ)) (rows : Rows) (form : IsEchelonFor
           same k
           ∙ ap (coef P.p (polynomial_of ms s)) (sym x.same)
           ∙ ap (λ z. z % P.p)
-          (total-polynomial_of ms s x.place form.monomials.falling x.within is.full
+          (total-polynomial_of ms s x.place (falling_list form.monomials) x.within is.full
           ∙ is.others x.place x.row x.there (λ q. apart (sym x.same ∙ ap (mono_at ms) q ∙ sym lead)))
           ∙ zero-mod P.p
 

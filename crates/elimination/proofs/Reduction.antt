@@ -3,7 +3,7 @@
 use Rattle.std.proofs.Common.{◌≡◌, ◌≢◌, ℕ, ◌+◌, ◌<◌, ◌≤◌, ◌⊎◌, List, length, get_or, Option, Some, None, refl, ap, sym, ◌∙◌, inl, inr, ⊎_elim, subst, arith}
 use Rattle.std.proofs.lemmas.Bool.{cases_lt}
 use Rattle.std.proofs.lemmas.List.{get_or_past}
-use Rattle.elimination.specs.Rows.{IsRow}
+use Rattle.trunc_row.specs.Rows.{IsRow}
 use Rattle.elimination.specs.Pivots.{Rows, row_at, IsRemainder, IsReduction}
 use Rattle.elimination.proofs.Remainders.{remainder_same, remainder_trans}
 

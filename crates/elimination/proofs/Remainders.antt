@@ -5,7 +5,7 @@ use Rattle.std.proofs.Math.Nat.{zero-mod, mod-mod, mod-eq_of_lt, mul-mod_right}
 use Rattle.std.proofs.lemmas.Bool.{cases_lt}
 use Rattle.std.proofs.lemmas.List.{length-set}
 use Rattle.prime_field.proofs.Residue.{add_same, mul_same}
-use Rattle.elimination.specs.Rows.{IsRow}
+use Rattle.trunc_row.specs.Rows.{IsRow}
 use Rattle.elimination.specs.Pivots.{Rows, row_at, combined, IsPivot, ArePivots, IsCombination, IsRemainder, IsMadeOf, Joins}
 use Rattle.elimination.proofs.Combined.{put, put_at, combined-put, combined-put_none, combined-set, combined-scale}
 
@@ -62,6 +62,10 @@ remainder_step p n rows i c f r s t e z h = record { factor = put (λ k. 0) i c;
 -- a number of a row is a residue
 pub row_small : (p n : ℕ) (r : List ℕ) (j : ℕ) → IsRow p n r → j < n → get_or r j 0 < p
 row_small p n r j h l = h.residues j 0 (omega (arith, h.full))
+
+-- a residue and its opposite add up to 0
+pub opposite_sum : (p c : ℕ) → c < p → (c + (p - c)) % p ≡ 0
+opposite_sum p c l = ap (λ x. x % p) (let e : c + (p - c) ≡ p * 1 = omega arith in e) ∙ mul-mod_right p 1
 
 -- where the other row is 0, nothing changes
 pub step_same : (p n f j : ℕ) (r s t : List ℕ) → IsRow p n r → j < n → get_or t j 0 ≡ 0 → get_or s j 0 ≡ (get_or r j 0 + f * get_or t j 0) % p → get_or s j 0 ≡ get_or r j 0

@@ -6,7 +6,8 @@ use Rattle.local_order.specs.Mono.{same}
 use Rattle.sparse_poly.specs.Poly.{Term, Poly, total, IsIn}
 use Rattle.sparse_poly.proofs.Coef.{total-append}
 use Rattle.sparse_poly.proofs.Member.{in-append}
-use Rattle.elimination.specs.Rows.{mono_at, polynomial_of}
+use Rattle.mono_rank.specs.Rank.{mono_at}
+use Rattle.elimination.specs.Rows.{polynomial_of}
 
 -- the polynomial of the first places, and its terms so far
 pub record TermsTo (n : ℕ) (ms : List (List ℕ)) (r : List ℕ) (i : ℕ) (f : Poly) : Type 0 where

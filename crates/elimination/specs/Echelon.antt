@@ -2,9 +2,14 @@
 use Rattle.std.specs.Prelude.{◌≡◌, ℕ, ◌<◌, List, [], length, Some, slice_index_or}
 use Rattle.sparse_poly.specs.Poly.{Poly, total, term_times}
 use Rattle.sparse_poly.specs.Ideal.{Problem, IsProblem, IsInIdeal}
-use Rattle.elimination.specs.Monomials.{ListsMonomials}
-use Rattle.elimination.specs.Rows.{mono_at, polynomial_of}
+use Rattle.mono_rank.specs.Rank.{mono_at, ListsMonomials}
+use Rattle.mono_rank.specs.Stored.{Shape}
+use Rattle.elimination.specs.Rows.{polynomial_of}
 use Rattle.elimination.specs.Pivots.{Rows, row_at, ArePivots, IsCombination}
+
+-- the table of ranks of a problem
+abbrev pub shape_of : Problem → Shape
+shape_of P = record { n = P.n; d = P.d }
 
 -- generator k
 abbrev pub generator : Problem → ℕ → Poly

@@ -1,4 +1,3 @@
-pub mod Monomials
 pub mod Rows
 pub mod Pivots
 pub mod Echelon

@@ -1,6 +1,6 @@
 -- Rows in echelon form: at each place no row, or one whose first number that isn't 0 stands there.
 use Rattle.std.specs.Prelude.{◌≡◌, ℕ, suc, ◌+◌, ◌*◌, ◌%◌, ◌<◌, ◌≤◌, ◌⊎◌, List, [], ◌∷◌, length, Option, Some, None, slice_index, slice_index_or}
-use Rattle.elimination.specs.Rows.{IsRow}
+use Rattle.trunc_row.specs.Rows.{IsRow}
 
 -- at each place a row or none
 abbrev pub Rows : Type 0

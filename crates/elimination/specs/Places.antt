@@ -3,7 +3,7 @@ use Rattle.std.specs.Prelude.{◌≡◌, ℕ, ◌<◌, List, length, Some, None,
 use Rattle.local_order.specs.Mono.{Divides}
 use Rattle.sparse_poly.specs.Poly.{Poly}
 use Rattle.sparse_poly.specs.Ideal.{Problem, IsFalling, IsReducedMember, lead_of}
-use Rattle.elimination.specs.Rows.{mono_at}
+use Rattle.mono_rank.specs.Rank.{mono_at}
 use Rattle.elimination.specs.Pivots.{Rows, row_at}
 
 -- there is a row at place j

@@ -4,7 +4,7 @@ ghost use Rattle.std.specs.Prelude.{◌≡◌, ℕ, ◌≤◌, ◌↔◌, All, I
 ghost use Rattle.sparse_poly.specs.Poly.{IsCanonical, HasDegreeAtMost};
 ghost use Rattle.local_order.specs.Count.{monomial_count};
 
-use crate::{Echelon, monomials};
+use crate::Echelon;
 use local_order::Mono;
 use prime_field::Field;
 use sparse_poly::{Poly, PolyTerm, Polys, Problem};
@@ -310,28 +310,6 @@ const CASES: &[Case] = &[
 fn known_ideals(rt: HostRuntime) -> Result<(), Fail> {
     for case in CASES {
         compare(&rt, rt.alloc(), *case)?;
-    }
-    Ok(())
-}
-
-#[test]
-fn falling_monomials(rt: HostRuntime) -> Result<(), Fail> {
-    let all = monomials(rt.alloc(), 3, 2)?;
-    assert_eq!(rt; all.len(), 10);
-    let want = [
-        [1, 0, 0, 0],
-        [1, 1, 0, 0],
-        [1, 0, 1, 0],
-        [1, 0, 0, 1],
-        [1, 2, 0, 0],
-        [1, 1, 1, 0],
-        [1, 0, 2, 0],
-        [1, 1, 0, 1],
-        [1, 0, 1, 1],
-        [1, 0, 0, 2],
-    ];
-    for (m, want) in all.iter().zip(&want) {
-        assert!(rt; has_exps(m, want));
     }
     Ok(())
 }

@@ -1,9 +1,0 @@
-use Rattle.std.proofs.Common.{◌≤◌, ◌-◌}
-use Rattle.elimination.proofs.Next.{IsZeroBelow}
-use Rattle.elimination.proofs.monos.go_on.Given as goal
-
-abbrev pub invariant-loop-i : goal.invariant-loop-i
-invariant-loop-i l = (l.i ≤ l.last) × IsZeroBelow l.i l.exps
-
-abbrev pub decreases-loop-i : goal.decreases-loop-i
-decreases-loop-i l = l.last - l.i
