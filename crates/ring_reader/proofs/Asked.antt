@@ -6,14 +6,14 @@ use Rattle.script_grammar.specs.declared.script.Script.{Script}
 use Rattle.script_grammar.specs.Tokens.{Place, next}
 use Rattle.script_grammar.specs.Trees.{Tree}
 use Rattle.script_grammar.specs.Steps.{◌>>=◌}
-use Rattle.script_grammar.specs.Script.{script_of, position_from, position_of}
+use Rattle.script_grammar.specs.Script.{script_of, position_from}
 use Rattle.script_grammar.specs.Valid.{IsScript}
 use Rattle.script_grammar.specs.Meaning.{meaning}
 use Rattle.script_grammar.proofs.FoundScript.{script_found}
 use Rattle.script_grammar.proofs.OnlyScript.{script_again}
 use Rattle.ring_reader.specs.declared.error.ReadError.{ReadError}
 use Rattle.ring_reader.specs.declared.error.ReadError.TheVariants as errors
-use Rattle.ring_reader.specs.Answers.{Answers, Refuses, asked_by, located}
+use Rattle.ring_reader.specs.Answers.{Answers, asked_by, located}
 use Rattle.ring_reader.specs.Parts.{script_parts}
 use Rattle.ring_reader.proofs.Parts.{asked_is}
 

@@ -1,10 +1,10 @@
 -- The exponents of a short monomial.
-use Rattle.std.proofs.Common.{◌≡◌, ◌<◌, ◌≤◌, ◌+◌, ◌++◌, ◌⊎◌, inl, inr, ℕ, zero, suc, true, false, cond, Bool, List, [], ◌∷◌, Option, Some, None, length, take, map, get_or, slice_set, All, nat_lt, refl, sym, ap, ◌∙◌, arith}
+use Rattle.std.proofs.Common.{◌≡◌, ◌<◌, ◌≤◌, ◌+◌, ◌++◌, ◌⊎◌, inl, inr, ℕ, zero, suc, List, [], ◌∷◌, Option, Some, None, length, take, map, get_or, slice_set, All, sym, ap, ◌∙◌, arith}
 use Rattle.std.specs.Prelude.{IsSome, IfNone, ◌↔◌}
 use Rattle.std.proofs.lemmas.List.{take_more_set, take_more, take_all, map-append}
 use Rattle.script_tokens.specs.Reads.{at_most}
 use Rattle.script_tokens.proofs.Numbers.{at_most_some}
-use Rattle.std.proofs.lemmas.Bool.{cases_lt, ltb-true}
+use Rattle.std.proofs.lemmas.Bool.{cases_lt}
 use Rattle.std.proofs.lemmas.List.Elements.{All-cons}
 use Rattle.local_order.specs.Mono.{degree, IsWithinLimits}
 use Rattle.script_grammar.specs.Words.{exponents}

@@ -8,10 +8,8 @@ use Rattle.std.proofs.lemmas.Bool.{le-ltb}
 use mathlib.Core.List.{append_assoc}
 use Rattle.script_grammar.specs.declared.refusal.Refusal.{Refusal}
 use Rattle.script_grammar.specs.declared.refusal.ReadKind.{ReadKind}
-use Rattle.script_grammar.specs.declared.refusal.ReadKind.TheVariants.{UnknownName, ExponentTooLarge, TooManyGenerators}
 use Rattle.script_grammar.specs.declared.refusal.What.TheVariants as whats
-use Rattle.sparse_poly.specs.Poly.{Poly, Polynomial, in_variables, cut, derivative}
-use Rattle.sparse_poly.specs.Canonical.{canonical}
+use Rattle.sparse_poly.specs.Poly.{Poly, Polynomial, in_variables}
 use Rattle.script_grammar.specs.Tokens.{Place, next, word}
 use Rattle.script_grammar.specs.Words.{is_numeral, is_one_of, keywords, is_short, has_large, is_the_mark, is_the_word}
 use Rattle.script_grammar.specs.Trees.{Member, generator, jacobian, Members, only, more}

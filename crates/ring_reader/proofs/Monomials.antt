@@ -1,5 +1,5 @@
--- The loop over factors of the noether monomial, and the number of monomials.
-use Rattle.std.proofs.Common.{◌≡◌, ℕ, zero, suc, add-one, ◌+◌, ◌-◌, ◌*◌, ◌/◌, ◌<◌, ◌≤◌, min, true, false, List, Result, Ok, Err, refl, sym, ap, subst, ◌∙◌, arith}
+-- The loop over factors of the noether monomial.
+use Rattle.std.proofs.Common.{◌≡◌, ℕ, zero, suc, ◌+◌, ◌<◌, ◌≤◌, min, true, false, List, Result, Ok, Err, refl, sym, ap, subst, ◌∙◌, arith}
 use Rattle.script_grammar.specs.declared.refusal.Refusal.{Refusal}
 use Rattle.script_grammar.specs.Tokens.{Place, next}
 use Rattle.script_grammar.specs.Words.{is_the_mark}
@@ -8,9 +8,6 @@ use Rattle.script_grammar.specs.Steps.{◌>>=◌}
 use Rattle.script_grammar.specs.Statements.{factor_at, factors_at, factor_degree, degree_of}
 use Rattle.std.specs.Result.{IsErrAnd}
 use Rattle.std.proofs.lemmas.Result.{err_from_is_err_and}
-use Rattle.std.proofs.Math.Nat.{mul-le-mul, mul-le-mul_left, le-div_iff_mul-le, div-mul-le_self}
-use Rattle.local_order.specs.Count.{monomial_count, count_by_products}
-use Rattle.local_order.proofs.Count.{count_by_products-is}
 use Rattle.script_tokens.specs.Reads.{Reads}
 use Rattle.ring_reader.specs.Gives.{meant}
 use Rattle.ring_reader.specs.Monomial.{capped}
@@ -84,51 +81,3 @@ pub monomial_ends : (letters : List ℕ) (whole : Result (Monomial × Place) Ref
     → is_the_mark 42 t.token ≡ false → MonomialSoFar letters whole d t → meant (λ m. capped (degree_of m)) whole ≡ Ok (d, t)
 monomial_ends letters whole d t here s =
     ap (meant (λ m. capped (degree_of m))) (monomial_ends-at letters whole t here s.turns s.monomial s.reads) ∙ ap (λ (k : ℕ). Ok (k, t)) (sym s.degree_is)
-
--- ---- the number of monomials
-div_le_div : (a b k : ℕ) → a ≤ b → a / suc k ≤ b / suc k
-div_le_div a b k h = (le-div_iff_mul-le {k = suc k} {x = a / suc k} {y = b} (omega arith)).1 (let l = div-mul-le_self a (suc k) in omega arith)
-
--- a greater degree makes no fewer
-count_in_degree : (n d e : ℕ) → d ≤ e → count_by_products n d ≤ count_by_products n e
-count_in_degree zero d e h = omega arith
-count_in_degree (suc n) d e h =
-    div_le_div (count_by_products n d * (suc n + d)) (count_by_products n e * (suc n + e)) n
-    (mul-le-mul (count_in_degree n d e h) (omega arith))
-
--- one more variable makes no fewer
-count_in_variables : (n d : ℕ) → count_by_products n d ≤ count_by_products (suc n) d
-count_in_variables n d =
-    (le-div_iff_mul-le {k = suc n} {x = count_by_products n d} {y = count_by_products n d * (suc n + d)} (omega arith)).1
-    (mul-le-mul_left (count_by_products n d) (omega arith))
-
-count_in_more : (n more d : ℕ) → count_by_products n d ≤ count_by_products (n + more) d
-count_in_more n zero d = let same : n + 0 ≡ n = omega arith in rw same (omega arith)
-count_in_more n (suc more) d =
-    let so_far = count_in_more n more d in
-    let one = count_in_variables (n + more) d in
-    let same : n + suc more ≡ suc (n + more) = omega arith in
-    rw same (omega (arith, so_far, one))
-
--- at most as many as in 8 variables and of degree 255
-pub count_low : (n d : ℕ) → n ≤ 8 → d ≤ 255 → count_by_products n d ≤ 509850594887712
-count_low n d few low =
-    let by_degree = count_in_degree n d 255 low in
-    let whole : n + (8 - n) ≡ 8 = omega arith in
-    let by_variables : count_by_products n 255 ≤ 509850594887712 = subst (λ k. count_by_products n 255 ≤ count_by_products k 255) whole (count_in_more n (8 - n) 255) in
-    omega (arith, by_degree, by_variables)
-
--- so the next product fits
-pub product_low : (n d k r : ℕ) → n ≤ 8 → d ≤ 255 → r ≡ d + n + 1 → k ≡ count_by_products n d → k * r ≤ 509850594887712 * 264
-product_low n d k r few low above e =
-    let l = count_low n d few low in
-    mul-le-mul {n₁ = k} {m₁ = r} {n₂ = 509850594887712} {m₂ = 264} (omega (arith, e, l)) (omega arith)
-
-pub count_goes : (n d k r s : ℕ) → r ≡ d + n + 1 → s ≡ n + 1 → k ≡ count_by_products n d → k * r / s ≡ count_by_products (n + 1) d
-count_goes n d k r s above below e =
-    let up : r ≡ suc n + d = omega arith in
-    let under : s ≡ suc n = omega arith in
-    rw (e, up, under, add-one) refl
-
-pub count_ends : (n m d k : ℕ) → m ≡ n → k ≡ count_by_products m d → k ≡ monomial_count n d
-count_ends n m d k same e = e ∙ ap (λ i. count_by_products i d) same ∙ count_by_products-is n d

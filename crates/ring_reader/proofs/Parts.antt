@@ -7,15 +7,14 @@ use Rattle.script_grammar.specs.declared.refusal.What.TheVariants as whats
 use Rattle.script_grammar.specs.declared.script.Script.{Script}
 use Rattle.script_grammar.specs.Tokens.{Place, next}
 use Rattle.script_grammar.specs.Words.{is_the_word}
-use Rattle.script_grammar.specs.Trees.{Remark, Ring, Monomial, Statement, Tree}
+use Rattle.script_grammar.specs.Trees.{Ring, Monomial, Tree}
 use Rattle.script_grammar.specs.Steps.{◌>>=◌, refused, wanted}
 use Rattle.script_grammar.specs.Statements.{remarks_at, ring_at, noether_at, degree_of, letters_of}
 use Rattle.script_grammar.specs.Script.{begins_later, statements_at, tree_at, script_of}
 use Rattle.script_grammar.specs.Meaning.{meaning}
 use Rattle.ring_reader.specs.Gives.{meant}
-use Rattle.ring_reader.specs.Behind.{behind_read, remarks_read}
 use Rattle.ring_reader.specs.RingView.{RingValue, ring_value}
-use Rattle.ring_reader.specs.Parts.{ring_part, noether_part, statements_part, script_value, script_parts, no_names}
+use Rattle.ring_reader.specs.Parts.{script_parts, no_names}
 use Rattle.ring_reader.specs.Answers.{asked_by}
 
 -- ---- one after the other

@@ -1,5 +1,5 @@
 -- The loop over statements: what it has read, with its names, values and commands, and what it still reads.
-use Rattle.std.proofs.Common.{◌≡◌, ℕ, zero, suc, ◌+◌, ◌<◌, ◌≤◌, ◌++◌, ◌&&◌, true, false, cond, Bool, List, [], ◌∷◌, length, map, nat_le, Result, Ok, Err, refl, sym, ap, subst, ◌∙◌, arith}
+use Rattle.std.proofs.Common.{◌≡◌, ℕ, zero, suc, ◌+◌, ◌<◌, ◌++◌, ◌&&◌, true, false, List, [], ◌∷◌, length, map, nat_le, Result, Ok, refl, sym, ap, subst, ◌∙◌, arith}
 use Rattle.std.specs.Prelude.{All}
 use Rattle.std.proofs.lemmas.List.{map-append, length-append, append-nil}
 use mathlib.Core.List.{append_assoc}
@@ -11,7 +11,7 @@ use Rattle.script_grammar.specs.Trees.{Statement, remark, poly, again, ideal, co
 use Rattle.script_grammar.specs.Steps.{◌>>=◌}
 use Rattle.script_grammar.specs.Expressions.{Declarations}
 use Rattle.script_grammar.specs.Script.{after, commands_in, statement_at, statements_at}
-use Rattle.script_grammar.specs.Meaning.{Values, Named, values_after, commands_of, statements_meaning, members_value, value_in}
+use Rattle.script_grammar.specs.Meaning.{Values, Named, values_after, commands_of, statements_meaning}
 use Rattle.sparse_poly.specs.Poly.{Poly, HasDegreeAtMost}
 use Rattle.ring_reader.specs.declared.names.NamedPoly.{NamedPoly}
 use Rattle.ring_reader.specs.declared.names.NamedIdeal.{NamedIdeal}

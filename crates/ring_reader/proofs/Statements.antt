@@ -1,17 +1,13 @@
 -- Statements by what the code knows of their parts, and what they leave behind.
-use Rattle.std.proofs.Common.{◌≡◌, ℕ, suc, ◌+◌, ◌<◌, ◌≤◌, ◌++◌, true, false, List, [], ◌∷◌, length, map, Result, Ok, Err, refl, sym, ap, subst, ◌∙◌, arith}
+use Rattle.std.proofs.Common.{◌≡◌, ℕ, suc, true, List, [], ◌∷◌, map, Ok, refl, sym, ap, subst, ◌∙◌, arith}
 use Rattle.std.specs.Prelude.{All, codes}
-use Rattle.std.proofs.lemmas.List.{map-append, length-append}
 use Rattle.std.proofs.lemmas.List.Elements.{All-map}
-use Rattle.prime_field.specs.Prime.{InTable}
 use Rattle.sparse_poly.specs.Poly.{Poly, Polynomial, in_variables, IsCanonical, HasDegreeAtMost}
-use Rattle.sparse_poly.specs.Ideal.{Problem, IsProblem}
-use Rattle.script_grammar.specs.declared.refusal.Refusal.{Refusal}
 use Rattle.script_grammar.specs.declared.refusal.What.TheVariants as whats
 use Rattle.script_grammar.specs.Tokens.{Place, next}
 use Rattle.script_grammar.specs.Words.{is_the_word}
-use Rattle.script_grammar.specs.Trees.{Statement, again}
-use Rattle.script_grammar.specs.Steps.{◌>>=◌, mark_at}
+use Rattle.script_grammar.specs.Trees.{again}
+use Rattle.script_grammar.specs.Steps.{mark_at}
 use Rattle.script_grammar.specs.Expressions.{Declarations}
 use Rattle.script_grammar.specs.Statements.{new_name_at, argument_at, ideal_at}
 use Rattle.script_grammar.specs.Meaning.{Values, variable_count}

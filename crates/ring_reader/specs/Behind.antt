@@ -1,5 +1,5 @@
 -- Where reading goes on, whatever was read.
-use Rattle.std.specs.Prelude.{ℕ, List, [], Result, Ok, codes, if◌then◌else◌}
+use Rattle.std.specs.Prelude.{[], Result, Ok, codes, if◌then◌else◌}
 use Rattle.script_grammar.specs.declared.refusal.Refusal.{Refusal}
 use Rattle.script_grammar.specs.declared.refusal.What.TheVariants as whats
 use Rattle.script_grammar.specs.Tokens.{Place, next}

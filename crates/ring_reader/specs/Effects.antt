@@ -1,12 +1,9 @@
 -- What a statement does: it declares a polynomial or an ideal, or it is a command, or nothing.
 use Rattle.std.specs.Prelude.{ℕ, List, [], map, if◌then◌else◌}
 use Rattle.sparse_poly.specs.Poly.{Poly, Polynomial, in_variables}
-use Rattle.script_grammar.specs.declared.script.Command.{Command as Asked}
 use Rattle.script_grammar.specs.Trees.{Member, Members, Statement, remark, poly, again, ideal, command, command_std}
 use Rattle.script_grammar.specs.Statements.{is_on_poly}
 use Rattle.script_grammar.specs.Meaning.{Values, variable_count, value_in, sum_value, member_value, members_value, function_subject, ideal_subject}
-use Rattle.ring_reader.specs.declared.names.NamedPoly.{NamedPoly}
-use Rattle.ring_reader.specs.declared.names.NamedIdeal.{NamedIdeal}
 use Rattle.ring_reader.specs.declared.effect.Effect.{Effect}
 use Rattle.ring_reader.specs.declared.effect.Effect.TheVariants as effects
 

@@ -1,5 +1,5 @@
 -- A script read part by part, each to its value.
-use Rattle.std.specs.Prelude.{◌≡◌, ℕ, suc, List, [], Result, Ok, codes, if◌then◌else◌}
+use Rattle.std.specs.Prelude.{ℕ, suc, List, [], Result, Ok, codes, if◌then◌else◌}
 use Rattle.script_grammar.specs.declared.refusal.Refusal.{Refusal}
 use Rattle.script_grammar.specs.declared.refusal.ReadKind.TheVariants.{MissingNoether}
 use Rattle.script_grammar.specs.declared.refusal.What.TheVariants as whats

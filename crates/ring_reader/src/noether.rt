@@ -9,6 +9,7 @@ ghost use Rattle.script_grammar.specs.Statements.{factor_at, factor_degree, degr
 ghost use Rattle.ring_reader.specs.Gives.{meant};
 ghost use Rattle.ring_reader.specs.Monomial.{monomial_at, capped};
 
+use mono_rank::{MAX_MONOMIALS, monomial_count};
 use script_grammar::{ReadKind, Refusal, What};
 use script_tokens::{
     Place, behind, degree_within, exponent, has_large, is_mark, is_short, mark, name, refused,
@@ -17,9 +18,6 @@ use sparse_poly::Letters;
 
 /// The greatest noether degree.
 const MAX_DEGREE: u32 = 255;
-
-/// The greatest number of monomials of at most the noether degree.
-const MAX_MONOMIALS: u64 = 4096;
 
 /// A factor of the noether monomial, by its degree, which is 256 where it is more.
 #[tactic(auto, unfolding(script_grammar::specs::Statements::factor_at))]
@@ -58,19 +56,6 @@ fn monomial<'a>(letters: &Letters, here: Place<'a>) -> Result<(u32, Place<'a>), 
         after = next;
     }
     Ok((degree, after))
-}
-
-/// How many monomials in `n` variables have degree at most `d`.
-fn monomial_count(n: u32, d: u32) -> u64
-    requires few { n ≤ 8 }
-    requires low { d ≤ 255 }
-    ensures { result ≡ number_of_monomials n d }
-{
-    let mut count: u128 = 1;
-    for k in 0..n {
-        count = count * u128::from(d + k + 1) / u128::from(k + 1);
-    }
-    count as u64
 }
 
 /// The noether degree, from behind the word `noether` on. It is tested before what stands behind the monomial.
