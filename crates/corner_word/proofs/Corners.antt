@@ -6,21 +6,20 @@ use Rattle.std.proofs.lemmas.Bool.{cases_lt}
 use Rattle.std.proofs.lemmas.List.{length-replicate, get_or-replicate}
 use Rattle.std.proofs.lemmas.List.Elements.{Contains-append_left, Contains-push, Contains-push_cases}
 use Rattle.std.proofs.Math.Seq.{take-append_seam}
-use Rattle.local_order.specs.Mono.{degree, Divides}
+use Rattle.local_order.specs.Mono.{Divides}
 use Rattle.local_order.specs.Count.{monomial_count}
 use Rattle.mono_rank.specs.Rank.{HasRank}
 use Rattle.mono_rank.specs.Cover.{IsMultiple, Covers, IsCorner}
 use Rattle.mono_rank.proofs.Walk.{walk}
-use Rattle.mono_rank.proofs.Looks.{fewer_small}
-use Rattle.mono_rank.proofs.Ranks.{rank_low, rank_reached, rank_below}
-use Rattle.corner_word.specs.Marks.{Marked, mark_at, IsCoverOf, IsMarkedFrom, IsFirst, IsKept}
+use Rattle.mono_rank.proofs.Ranks.{rank_small, rank_reached}
+use Rattle.corner_word.specs.Marks.{Marked, mark_at, IsCoverOf, IsMarkedFrom, IsLeastMarked, IsKept}
 
 -- ---- the corner
 -- the first rank that has only marks from it on is the corner
 pub corner_is : (n d : ℕ) (marks : List Bool) (w : ℕ) (c : Marked) (leads : List ℕ) → record { n = n; d = d; marks = marks } ≡ c → IsKept n d marks w →
     IsCoverOf leads c → IsCorner c.n c.d leads w
 corner_is n d marks w c leads e K C = subst (λ (x : Marked). IsCorner x.n x.d leads w) e (record {
-  covers = λ m r l h. (D.each m r h).0 (K.corner.marked.from r l (omega (arith, K.all, rank_low n d m h.in_ring h.low, h.rank)));
+  covers = λ m r l h. (D.each m r h).0 (K.corner.marked.from r l (omega (arith, K.all, rank_small n d m r h)));
   low = omega (arith, K.all, K.corner.marked.low);
   least = λ v V. go v V (cases_lt v w);
 })
@@ -65,25 +64,12 @@ cover_first n d w marks e f = record { each = λ m r h. (λ t. absurd (no m r h 
   where
     no : (m : List ℕ) (r : ℕ) → HasRank n d m r → IsTrue (mark_at marks r) → ⊥
     no m r h t =
-        let clear : mark_at marks r ≡ false = ap (λ s. mark_at s r) f ∙ get_or-replicate w r false false (omega (arith, e, rank_low n d m h.in_ring h.low, h.rank)) in
+        let clear : mark_at marks r ≡ false = ap (λ s. mark_at s r) f ∙ get_or-replicate w r false false (omega (arith, e, rank_small n d m r h)) in
         let wrong : false ≡ true = sym clear ∙ t in
         absurd (cc (wrong))
 
     none : {l : ℕ} → Contains [] l → ⊥
     none h = omega (arith, h.1)
-
--- the last rank is that of a monomial of the greatest degree
-pub last_degree : (n d e r : ℕ) → 1 ≤ n → suc r ≡ monomial_count n d → e ≤ d → ((m : List ℕ) → HasRank n d m r → e ≡ degree m) → e ≡ d
-last_degree n d e r some f low is = go (cases_lt e d)
-  where
-    h : HasRank n d (walk n r) r
-    h = rank_reached n d r some (omega arith)
-
-    go : (e < d) ⊎ (d ≤ e) → e ≡ d
-    go (inl l) =
-        let same : monomial_count n e ≡ monomial_count n (degree (walk n r)) = ap (monomial_count n) (is (walk n r) h) in
-        absurd (omega (arith, same, rank_below n d (walk n r) r some h, fewer_small n d (suc e) l some))
-    go (inr l) = omega arith
 
 -- ---- one more lead
 -- the marks t are those of s and of the multiples of the lead
@@ -117,7 +103,7 @@ marked_still n d s t lead w K l e more = record {
 }
 
 -- the first rank that is found among the new marks is kept beside them
-pub kept_more : (n d : ℕ) (s t v : List Bool) (w u : ℕ) → IsKept n d s w → length t ≡ length s → v ≡ t → IsFirst v u → IsKept n d v u
+pub kept_more : (n d : ℕ) (s t v : List Bool) (w u : ℕ) → IsKept n d s w → length t ≡ length s → v ≡ t → IsLeastMarked v u → IsKept n d v u
 kept_more n d s t v w u K e f F = record { some = K.some; all = ap length f ∙ e ∙ K.all; corner = F }
 
 -- the marks of the multiples of one more lead make the cover of one more

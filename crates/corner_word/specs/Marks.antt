@@ -24,7 +24,7 @@ pub record IsMarkedFrom (marks : List Bool) (w : ℕ) : Type 0 where
   pub from : (r : ℕ) → w ≤ r → r < length marks → IsTrue (mark_at marks r)
 
 -- and the rank before isn't
-pub record IsFirst (marks : List Bool) (w : ℕ) : Type 0 where
+pub record IsLeastMarked (marks : List Bool) (w : ℕ) : Type 0 where
   pub marked : IsMarkedFrom marks w
   pub before : (k : ℕ) → suc k ≡ w → mark_at marks k ≡ false
 
@@ -32,4 +32,4 @@ pub record IsFirst (marks : List Bool) (w : ℕ) : Type 0 where
 pub record IsKept (n d : ℕ) (marks : List Bool) (w : ℕ) : Type 0 where
   pub some : 1 ≤ n
   pub all : length marks ≡ monomial_count n d
-  pub corner : IsFirst marks w
+  pub corner : IsLeastMarked marks w

@@ -4,7 +4,7 @@ ghost use Rattle.std.specs.Prelude.{◌≡◌, ℕ, List, ◌<◌, ◌≤◌, �
 ghost use Rattle.local_order.specs.Mono.{Divides};
 ghost use Rattle.local_order.specs.Count.{monomial_count};
 ghost use Rattle.mono_rank.specs.Rank.{HasRank};
-ghost use Rattle.corner_word.specs.Marks.{mark_at, IsMarkedFrom, IsFirst};
+ghost use Rattle.corner_word.specs.Marks.{mark_at, IsMarkedFrom, IsLeastMarked};
 
 use mono_rank::RankTable;
 
@@ -25,7 +25,7 @@ pub(crate) fn mark_multiples(marks: &mut [bool], table: &RankTable, lead: u32)
 /// The least rank that has only marked ones from it on, looked for from a rank that has them down.
 pub(crate) fn lowered(marks: &[bool], from: u32) -> u32
     requires { IsMarkedFrom marks.now from }
-    ensures { IsFirst marks.now result }
+    ensures { IsLeastMarked marks.now result }
 {
     let mut corner = from;
     while corner > 0 && marks[(corner - 1) as usize] {

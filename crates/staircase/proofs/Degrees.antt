@@ -11,9 +11,7 @@ use Rattle.local_order.specs.Mono.{degree}
 use Rattle.local_order.specs.Count.{monomial_count}
 use Rattle.mono_rank.specs.Rank.{HasRank, fewer}
 use Rattle.mono_rank.proofs.Pascal.{count_in_degree}
-use Rattle.mono_rank.proofs.Walk.{walk}
-use Rattle.mono_rank.proofs.Ranks.{rank_from, rank_below, rank_reached}
-use Rattle.mono_rank.proofs.Looks.{fewer_small}
+use Rattle.mono_rank.proofs.Ranks.{rank_from, rank_below}
 use Rattle.staircase.specs.Stair.{is_of_degree, IsLeastOfDegree}
 
 -- fewer have a lesser degree
@@ -77,17 +75,3 @@ found_is n d low ranks (Some r) a e f = record {
   of_degree = is_then n d r (omega (arith, f.1)) (All-contains (λ r. r < monomial_count n d) ranks r a f.0);
   least = λ q c t. f.2 q c (omega (arith, (of_degree n d q t).0));
 }
-
--- ---- the greatest degree
--- the last rank is that of a monomial of the greatest degree
-pub last_degree : (n d e r : ℕ) → 1 ≤ n → suc r ≡ monomial_count n d → e ≤ d → ((m : List ℕ) → HasRank n d m r → e ≡ degree m) → e ≡ d
-last_degree n d e r some l low is = go (cases_lt e d)
-  where
-    h : HasRank n d (walk n r) r
-    h = rank_reached n d r some (omega arith)
-
-    go : (e < d) ⊎ (d ≤ e) → e ≡ d
-    go (inl k) =
-        let same : monomial_count n e ≡ monomial_count n (degree (walk n r)) = ap (monomial_count n) (is (walk n r) h) in
-        absurd (omega (arith, same, rank_below n d (walk n r) r some h, fewer_small n d (suc e) k some))
-    go (inr k) = omega arith

@@ -8,7 +8,7 @@ use Rattle.sparse_poly.specs.Ideal.{Problem, IsInIdeal, IsLeadOfIdeal, Fits, IsF
 use Rattle.staircase.specs.Monomial.{monomial}
 use Rattle.staircase.proofs.Descent.{from_lead}
 use Rattle.staircase.proofs.Leads.{IsLeadOfIdeal-member}
-use Rattle.staircase.proofs.Ranks.{falling_induction}
+use Rattle.staircase.proofs.Induction.{falling_induction}
 use Rattle.staircase.proofs.Terms.{IsLead-monomial, IsClosed-ideal}
 
 module _ (P : Problem) (prime : IsPrime P.p) where

@@ -2,7 +2,7 @@ mod Falling
 pub mod Staircases
 mod Difference
 pub mod Basis
-mod Ranks
+mod Induction
 mod Terms
 mod Descent
 pub mod Fits

@@ -25,7 +25,7 @@ use Rattle.staircase.proofs.Difference.{difference, difference-sum}
 use Rattle.staircase.proofs.Divisors.{basis_cases, lead_of_divided, staircase_by_basis}
 use Rattle.staircase.proofs.Falling.{among_of_contains}
 use Rattle.staircase.proofs.Leads.{IsLeadOfIdeal-member}
-use Rattle.staircase.proofs.Ranks.{falling_induction}
+use Rattle.staircase.proofs.Induction.{falling_induction}
 use Rattle.staircase.proofs.Terms.{IsClosed, by_monomials}
 
 -- ---- independence

@@ -4,8 +4,10 @@
 
 pub mod laws;
 mod pick;
+mod ranks;
 mod stair;
 #[cfg(test)]
 mod tests;
 
+pub use ranks::Ranks;
 pub use stair::Stair;

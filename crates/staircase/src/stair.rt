@@ -5,6 +5,7 @@ ghost use Rattle.local_order.specs.Count.{monomial_count};
 ghost use Rattle.staircase.specs.Stair.{IsStairOf, is_of_degree, IsLeastOfDegree};
 
 use crate::pick::{count_between, first_from, first_ranks, non_multiples};
+use crate::ranks::Ranks;
 use mono_rank::RankTable;
 use std::alloc::{AllocError, Global};
 use std::marker::Model;
@@ -15,7 +16,7 @@ use std::marker::Model;
 pub struct Stair {
     n: u32,
     d: u32,
-    ranks: Vec<u32>,
+    ranks: Ranks,
     firsts: Vec<u32>,
 }
 
@@ -24,9 +25,9 @@ impl Model for Stair {
 
     ghost Value = { Stairs };
 
-    ghost view = { λ s. record { n = s.n; d = s.d; ranks = s.ranks.items } };
+    ghost view = { λ s. record { n = s.n; d = s.d; ranks = s.ranks } };
 
-    ghost invariant = { λ s. IsKept s.n s.d s.ranks.items s.firsts.items };
+    ghost invariant = { λ s. IsKept s.n s.d s.ranks s.firsts.items };
 }
 
 impl Stair {
@@ -39,7 +40,7 @@ impl Stair {
     {
         let n = table.mono(0).n();
         let d = table.degree_of(table.count() - 1);
-        let ranks = non_multiples(alloc, table, leads)?;
+        let ranks = Ranks::from_vec(non_multiples(alloc, table, leads)?);
         let firsts = first_ranks(alloc, table, d)?;
         Ok(Stair {
             n,
@@ -50,7 +51,7 @@ impl Stair {
     }
 
     /// The ranks, rising.
-    pub fn list(&self) -> &[u32]
+    pub fn list(&self) -> &Ranks
         ensures { result.now ≡ self.now.ranks }
     {
         &self.ranks
@@ -67,7 +68,7 @@ impl Stair {
     pub fn corner(&self) -> Option<u32>
         ensures { result ≡ slice_get self.now.ranks (length self.now.ranks - 1) }
     {
-        self.ranks.last().copied()
+        self.ranks.as_slice().last().copied()
     }
 
     /// How many ranks have a degree.
@@ -79,7 +80,7 @@ impl Stair {
         }
         let low = self.firsts[degree as usize];
         let high = self.firsts[degree as usize + 1];
-        count_between(&self.ranks, low, high) as u32
+        count_between(self.ranks.as_slice(), low, high) as u32
     }
 
     /// The least rank of the greatest degree. There is none exactly where each rank has a lesser degree.
@@ -89,6 +90,6 @@ impl Stair {
             (IsLeastOfDegree self.now.n self.now.d self.now.ranks) }
     {
         let low = self.firsts[self.d as usize];
-        first_from(&self.ranks, low)
+        first_from(self.ranks.as_slice(), low)
     }
 }

@@ -13,7 +13,7 @@ fn staircase_of_squares(rt: HostRuntime) -> Result<(), Fail> {
     }
     // x^2 and y^2 leave 1, x, y and x*y.
     let stair = Stair::of(rt.alloc(), &table, &[3, 5])?;
-    assert_eq!(rt; stair.list(), &[0, 1, 2, 4][..]);
+    assert_eq!(rt; stair.list().as_slice(), &[0, 1, 2, 4][..]);
     assert_eq!(rt; stair.dimension(), 4);
     assert_eq!(rt; stair.corner(), Some(4));
     assert_eq!(rt; stair.count(1), 2);
@@ -26,7 +26,19 @@ fn staircase_of_squares(rt: HostRuntime) -> Result<(), Fail> {
 fn staircase_of_no_leads(rt: HostRuntime) -> Result<(), Fail> {
     let table = RankTable::new(rt.alloc(), 1, 2)?;
     let stair = Stair::of(rt.alloc(), &table, &[])?;
-    assert_eq!(rt; stair.list(), &[0, 1, 2][..]);
+    assert_eq!(rt; stair.list().as_slice(), &[0, 1, 2][..]);
     assert_eq!(rt; stair.first_missing(), Some(2));
+    Ok(())
+}
+
+#[test]
+fn lists_of_ranks(rt: HostRuntime) -> Result<(), Fail> {
+    let mut ranks = Ranks::new(rt.alloc());
+    ranks.push(3)?;
+    ranks.push(5)?;
+    assert_eq!(rt; ranks.len(), 2);
+    assert_eq!(rt; ranks.get(1), 5);
+    let kept = ranks.into_vec();
+    assert_eq!(rt; kept, vec![in rt.alloc(); 3, 5]?);
     Ok(())
 }

@@ -1,5 +1,5 @@
 use Rattle.std.proofs.Common.{◌≡◌, length, take, drop, ◌++◌, ◌∷◌, [], ap, ◌∙◌, sym, subst}
-use Rattle.corner_word.specs.Marks.{IsMarkedFrom, IsFirst, IsCoverOf}
+use Rattle.corner_word.specs.Marks.{IsMarkedFrom, IsLeastMarked, IsCoverOf}
 use Rattle.corner_word.proofs.Corners.{MarksMultiples, marked_over, lead_low, written_over, kept_more, marked_still, cover_more}
 use Rattle.corner_word.proofs.cover.Cover.add.Goals as goal
 
@@ -28,7 +28,7 @@ invariant_of-self c =
     let v = take I.marks.len (t ++ drop (length t) I.marks.items) in
     let same : v ≡ t = written_over I.marks.len t I.marks.items (c.mark_multiples.auto.marks ∙ c.deref_mut.ensures.len) in
     kept_more I.n I.d I.marks.items t v I.corner c.lowered-self-inside.result c.self.invariant (c.mark_multiples.auto.marks ∙ ap length c.deref_mut.ensures.value) same
-    (subst (λ s. IsFirst s c.lowered-self-inside.result) c.deref.ensures.value c.lowered-self-inside.ensures)
+    (subst (λ s. IsLeastMarked s c.lowered-self-inside.result) c.deref.ensures.value c.lowered-self-inside.ensures)
 
 pub returns-clause-leads : goal.returns-clause-leads
 returns-clause-leads c leads C =

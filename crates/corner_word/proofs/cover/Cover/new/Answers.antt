@@ -1,7 +1,8 @@
 use Rattle.std.proofs.Common.{◌≡◌, ◌-◌, false, replicate, rules, ap, ◌∙◌, sym, arith}
 use Rattle.local_order.specs.Count.{monomial_count}
 use Rattle.mono_rank.proofs.Pascal.{count_some}
-use Rattle.corner_word.proofs.Corners.{kept_first, cover_first, last_degree}
+use Rattle.corner_word.proofs.Corners.{kept_first, cover_first}
+use Rattle.mono_rank.proofs.Degrees.{last_degree}
 use Rattle.corner_word.proofs.cover.Cover.new.Goals as goal
 
 pub mono-requires : goal.mono-requires

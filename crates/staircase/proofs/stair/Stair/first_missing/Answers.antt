@@ -12,6 +12,6 @@ returns c =
     let I = c.self.inside in
     let there : I.d < length I.firsts.items = omega (arith, c.self.invariant.starts.long) in
     let low : c.index-low.result.now ≡ fewer I.n I.d = get_or_read I.firsts.items I.d c.index-low.result.now there c.index-low.ensures 0 ∙ c.self.invariant.starts.each I.d (omega arith) in
-    let found : IsFoundFrom I.ranks.items c.index-low.result.now c.first_from.result = subst (λ s. IsFoundFrom s c.index-low.result.now c.first_from.result) c.deref.ensures.value c.first_from.ensures in
+    let found : IsFoundFrom I.ranks c.index-low.result.now c.first_from.result = subst (λ s. IsFoundFrom s c.index-low.result.now c.first_from.result) c.as_slice.ensures c.first_from.ensures in
     subst (λ (S : Stairs). MatchOption c.first_from.result ((r : ℕ) → Contains S.ranks r → ¬ IsTrue (is_of_degree S.n S.d r)) (IsLeastOfDegree S.n S.d S.ranks)) c.self.view_is
-    (found_is I.n I.d c.index-low.result.now I.ranks.items c.first_from.result c.self.invariant.low low found)
+    (found_is I.n I.d c.index-low.result.now I.ranks c.first_from.result c.self.invariant.low low found)

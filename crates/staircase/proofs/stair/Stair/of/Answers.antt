@@ -1,6 +1,7 @@
-use Rattle.std.proofs.Common.{◌≡◌, ◌-◌, ◌∙◌, arith}
+use Rattle.std.proofs.Common.{◌≡◌, ◌-◌, sym, ◌∙◌, subst, arith}
+use Rattle.staircase.specs.Stair.{IsStairOf}
 use Rattle.mono_rank.proofs.Pascal.{count_some}
-use Rattle.staircase.proofs.Degrees.{last_degree}
+use Rattle.mono_rank.proofs.Degrees.{last_degree}
 use Rattle.staircase.proofs.Picks.{kept_over}
 use Rattle.staircase.proofs.stair.Stair.of.Goals as goal
 
@@ -27,8 +28,8 @@ greatest c =
 pub invariant_of-result : goal.invariant_of-result
 invariant_of-result c =
     let S = c.args.table.now in
-    kept_over S.n S.d c.n-n.result c.degree_of-d.result c.args.leads.now c.in_ok-ranks.ranks.items c.in_ok-firsts.firsts.items (c.n-n.ensures.value ∙ c.mono.ensures.in_ring) (greatest c) c.count.ensures.limits
-    c.in_ok-ranks.ensures c.in_ok-firsts.ensures
+    kept_over S.n S.d c.n-n.result c.degree_of-d.result c.args.leads.now c.from_vec-ranks.result c.in_ok-firsts.firsts.items (c.n-n.ensures.value ∙ c.mono.ensures.in_ring) (greatest c) c.count.ensures.limits
+    (subst (IsStairOf S.n S.d c.args.leads.now) (sym c.from_vec-ranks.ensures) c.in_ok-non_multiples.ensures) c.in_ok-firsts.ensures
 
 pub returns-clause-degree : goal.returns-clause-degree
 returns-clause-degree c = greatest c
