@@ -1,8 +1,7 @@
 //! Where a table is parted.
 
-ghost use Rattle.std.specs.Prelude.{◌≡◌, ◌<◌, ◌≤◌, length, drop};
-ghost use Rattle.std.specs.Io.{StartsWith};
-ghost use Rattle.script_table.specs.Outcome.{separator};
+ghost use Rattle.std.specs.Prelude.{◌≡◌, ◌<◌, ◌≤◌, ℕ, length};
+ghost use Rattle.script_table.specs.Parts.{IsEnd};
 
 /// The line between two scripts.
 pub const SEPARATOR: &[u8] = b"%%\n";
@@ -12,7 +11,8 @@ pub fn end_of_part(table: &[u8], start: usize) -> usize
     requires { start ≤ length table.now }
     ensures behind { start ≤ result }
     ensures within { result ≤ length table.now }
-    ensures parted { result < length table.now → StartsWith (drop result table.now) separator }
+    ensures parted { result < length table.now → IsEnd table.now start result }
+    ensures first { (k : ℕ) → start ≤ k → k < result → ¬ IsEnd table.now start k }
 {
     let mut begins_line = true;
     for i in start..table.len() {
