@@ -20,7 +20,7 @@ use Rattle.script_grammar.specs.Meaning.{Values, variable_count, value_in, membe
 use Rattle.ring_reader.specs.declared.stop.Stop.{Stop}
 use Rattle.ring_reader.specs.Gives.{Fails, meant}
 use Rattle.ring_reader.specs.Effects.{in_ring_of, member_gens, members_gens}
-use Rattle.ring_reader.specs.Gens.{derivatives, no_room_kind, members_from}
+use Rattle.ring_reader.specs.Gens.{derivatives, no_room_kind}
 use Rattle.ring_reader.proofs.Loops.{meant_ok, fails_meant, fails_on}
 use Rattle.ring_reader.proofs.Handed.{after_read}
 
@@ -94,18 +94,6 @@ pub record MembersSoFar (known : Declarations) (v : Values) (whole : Result (Mem
   pub enough : t.left < turns
   pub gens_are : gens ≡ members_gens v tree
   pub reads : members_at turns known tree t ≡ whole
-
-pub members_begin : (known : Declarations) (v : Values) (start t : Place) (gens : List Polynomial) → meant (λ m. [] ++ member_gens v m) (member_at known 0 start) ≡ Ok (gens, t)
-    → MembersSoFar known v (members_from known start) gens t
-members_begin known v start t gens e =
-    let m = meant_ok (member_gens v) (member_at known 0 start) gens t e in
-    record {
-      turns = suc t.left;
-      tree = only m.0;
-      enough = omega arith;
-      gens_are = m.2;
-      reads = sym (ap (λ (r : Result (Member × Place) Refusal). r >>= λ first. members_at (suc first.1.left) known (only first.0) first.1) m.1);
-    }
 
 members_step : (known : Declarations) (n : ℕ) (ms : Members) (t : Place) → is_the_mark 44 t.token ≡ true
     → members_at (suc n) known ms t ≡ (member_at known (count_of known ms) (next t.rest) >>= λ m. members_at n known (more ms m.0) m.1)

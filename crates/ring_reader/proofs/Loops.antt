@@ -4,10 +4,10 @@ use Rattle.script_grammar.specs.declared.refusal.Refusal.{Refusal}
 use Rattle.sparse_poly.specs.Poly.{Poly, times as poly_times}
 use Rattle.sparse_poly.specs.Canonical.{canonical}
 use Rattle.script_grammar.specs.Tokens.{Place, next}
-use Rattle.script_grammar.specs.Trees.{Power, Term, single, times, Sum, plus, minus}
+use Rattle.script_grammar.specs.Trees.{Power, Term, times, Sum, plus, minus}
 use Rattle.script_grammar.specs.Steps.{◌>>=◌}
 use Rattle.script_grammar.specs.Words.{is_the_mark}
-use Rattle.script_grammar.specs.Expressions.{Declarations, power_at, times_at, term_at, more_at, first_at, sum_at}
+use Rattle.script_grammar.specs.Expressions.{Declarations, power_at, times_at, term_at, more_at}
 use Rattle.script_grammar.specs.Meaning.{Values, in_ring, opposite, power_value, term_value, sum_value}
 use Rattle.ring_reader.specs.declared.stop.Stop.{Stop}
 use Rattle.ring_reader.specs.declared.stop.Stop.TheVariants as stops
@@ -44,12 +44,6 @@ pub record TermSoFar (inner : Place → Result (Sum × Place) Refusal) (known : 
   pub enough : t.left ≤ turns
   pub value_is : value ≡ term_value v tree
   pub reads : times_at inner known turns tree t ≡ whole
-
-pub term_begins : (inner : Place → Result (Sum × Place) Refusal) (known : Declarations) (v : Values) (start : Place) (value : Poly) (t : Place) → meant (power_value v) (power_at inner known start) ≡ Ok (value, t) → TermSoFar inner known v (term_at inner known start) value t
-unfolding term_at term_value
-term_begins inner known v start value t e =
-    let m = meant_ok (power_value v) (power_at inner known start) value t e in
-    record { turns = t.left; tree = single m.0; enough = omega arith; value_is = m.2; reads = sym (ap (λ (r : Result (Power × Place) Refusal). r >>= λ x. times_at inner known x.1.left (single x.0) x.1) m.1) }
 
 term_goes_on-at : (inner : Place → Result (Sum × Place) Refusal) (known : Declarations) (v : Values) (whole : Result (Term × Place) Refusal) (value : Poly) (t : Place) (factor : Poly) (u : Place)
     → is_the_mark 42 t.token ≡ true → u.left < t.left → meant (power_value v) (power_at inner known (next t.rest)) ≡ Ok (factor, u) → (n : ℕ) (tree : Term) → t.left ≤ n → value ≡ term_value v tree → times_at inner known n tree t ≡ whole
@@ -108,12 +102,6 @@ pub record SumSoFar (inner : Place → Result (Sum × Place) Refusal) (known : D
   pub enough : t.left ≤ turns
   pub value_is : value ≡ sum_value v tree
   pub reads : more_at inner known turns tree t ≡ whole
-
-pub sum_begins : (inner : Place → Result (Sum × Place) Refusal) (known : Declarations) (v : Values) (start : Place) (value : Poly) (t : Place) → meant (sum_value v) (first_at inner known start) ≡ Ok (value, t) → SumSoFar inner known v (sum_at inner known start) value t
-unfolding sum_at
-sum_begins inner known v start value t e =
-    let m = meant_ok (sum_value v) (first_at inner known start) value t e in
-    record { turns = t.left; tree = m.0; enough = omega arith; value_is = m.2; reads = sym (ap (λ (r : Result (Sum × Place) Refusal). r >>= λ x. more_at inner known x.1.left x.0 x.1) m.1) }
 
 sum_adds-at : (inner : Place → Result (Sum × Place) Refusal) (known : Declarations) (v : Values) (whole : Result (Sum × Place) Refusal) (value : Poly) (t : Place) (other : Poly) (u : Place)
     → is_the_mark 43 t.token ≡ true → u.left < t.left → meant (term_value v) (term_at inner known (next t.rest)) ≡ Ok (other, u) → (n : ℕ) (tree : Sum) → t.left ≤ n → value ≡ sum_value v tree → more_at inner known n tree t ≡ whole

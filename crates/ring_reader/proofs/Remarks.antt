@@ -5,7 +5,7 @@ use Rattle.script_grammar.specs.Tokens.{Place}
 use Rattle.script_grammar.specs.Trees.{Remark}
 use Rattle.script_grammar.specs.Steps.{◌>>=◌}
 use Rattle.script_grammar.specs.Statements.{begins_remark, remark_at, remarks_at}
-use Rattle.ring_reader.specs.Behind.{behind_read, remarks_read}
+use Rattle.ring_reader.specs.Behind.{behind_read}
 
 -- what the loop still reads makes the whole
 pub record RemarksSoFar (whole : Result Place Refusal) (t : Place) : Type 0 where
@@ -13,9 +13,6 @@ pub record RemarksSoFar (whole : Result Place Refusal) (t : Place) : Type 0 wher
   pub done : List Remark
   pub enough : t.left ≤ turns
   pub reads : behind_read (remarks_at turns done t) ≡ whole
-
-pub remarks_begin : (t : Place) → RemarksSoFar (remarks_read t) t
-remarks_begin t = record { turns = t.left; done = []; enough = omega arith; reads = refl }
 
 -- the place behind what was read, and what that was
 pub behind_ok : {A : Type 0} (r : Result (A × Place) Refusal) (u : Place) → behind_read r ≡ Ok u → (x : A) × (r ≡ Ok (x, u))

@@ -1,5 +1,5 @@
 -- The test for the table of characteristics.
-use Rattle.std.proofs.Common.{◌≡◌, ◌<◌, ℕ, true, false, Bool, List, [], ◌∷◌, nat_eq, Option, Some, None, refl, sym, ◌∙◌, arith}
+use Rattle.std.proofs.Common.{◌≡◌, ℕ, true, false, Bool, List, [], ◌∷◌, nat_eq, Option, Some, None, refl, sym, ◌∙◌}
 use Rattle.std.specs.Prelude.{◌==◌, IsSome, ◌↔◌}
 use Rattle.std.specs.Option.{is_some}
 use Rattle.std.specs.List.{list_any}
@@ -7,7 +7,6 @@ use Rattle.std.proofs.lemmas.Bool.{eqb-true}
 use Rattle.std.proofs.lemmas.Cmp.{nat_eq_equiv}
 use Rattle.std.proofs.lemmas.Map.Views.{list_any-from_Contains, Contains-from_any}
 use Rattle.prime_field.specs.Prime.{table, InTable}
-use Rattle.prime_field.proofs.Primality.{InTable-le}
 
 any_turned : (p : ℕ) (xs : List ℕ) → list_any (λ q. q == p) xs ≡ list_any (nat_eq p) xs
 any_turned p [] = refl
@@ -22,9 +21,6 @@ not_in-by p false e h = refl
 
 pub not_in_table : (p : ℕ) → (InTable p → ⊥) → list_any (λ q. q == p) table ≡ false
 not_in_table p h = any_turned p table ∙ not_in-by p (list_any (nat_eq p) table) refl h
-
-pub above_table : (p : ℕ) → 2147483647 < p → list_any (λ q. q == p) table ≡ false
-above_table p h = not_in_table p (λ t. omega (arith, InTable-le p t))
 
 no_some : (X : Type 0) → IsSome {T = X} None → ⊥
 no_some X e = absurd cc

@@ -13,14 +13,18 @@ declared_poly f = record { name = f.name; value = f.value.terms }
 abbrev pub declared_ideal : NamedIdeal → Named (List Poly)
 declared_ideal i = record { name = i.name; value = map (λ f. f.terms) i.gens }
 
+-- the names of what is seen as named
+abbrev pub names_in : {S A : Type 0} → (S → Named A) → List S → List (List ℕ)
+names_in seen all = map (λ s. (seen s).name) all
+
 -- their names
 abbrev pub declared_with : List ℕ → ℕ → List ℕ → List NamedPoly → List NamedIdeal → Declarations
 declared_with ring p letters polys ideals = record {
   ring = ring;
   prime = p;
   letters = letters;
-  polys = map (λ (f : NamedPoly). f.name) polys;
-  ideals = map (λ (i : NamedIdeal). i.name) ideals;
+  polys = names_in declared_poly polys;
+  ideals = names_in declared_ideal ideals;
 }
 
 abbrev pub declarations_of : Names → Declarations

@@ -9,7 +9,7 @@ ghost use Rattle.ring_reader.specs.Gives.{Gives, meant, operand_meaning};
 ghost use Rattle.ring_reader.specs.NamesView.{declarations_of, values_of};
 ghost use Rattle.ring_reader.specs.Sound.{IsSound, IsValue};
 
-use crate::lookup::find_poly;
+use crate::lookup::find;
 use crate::names::Names;
 use crate::stop::Stop;
 use crate::values::{constant, opposite, quotient, short_value};
@@ -74,7 +74,7 @@ fn word_operand<'a>(
     if is_numeral(word) {
         return fraction(alloc, names, word, behind(here));
     }
-    if let Some(f) = find_poly(names.polys, word) {
+    if let Some(f) = find(names.polys, word) {
         return Ok(((f.value.copy(alloc)?, true), behind(here)));
     }
     if !is_short(names.letters.bytes(), word) {

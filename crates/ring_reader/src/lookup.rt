@@ -6,11 +6,9 @@ ghost use Rattle.sparse_poly.specs.Poly.{Poly as Terms};
 ghost use Rattle.script_tokens.specs.PlaceView.{place_of};
 ghost use Rattle.script_tokens.specs.Reads.{Reads};
 ghost use Rattle.script_grammar.specs.Words.{is_one_of};
-ghost use Rattle.script_grammar.specs.Meaning.{value_in};
+ghost use Rattle.script_grammar.specs.Meaning.{Named, value_in};
 ghost use Rattle.script_grammar.specs.Statements.{clashes as clashes_with, new_name_at, name_among, argument_at};
-ghost use Rattle.ring_reader.specs.declared.names.NamedPoly.{NamedPoly};
-ghost use Rattle.ring_reader.specs.declared.names.NamedIdeal.{NamedIdeal};
-ghost use Rattle.ring_reader.specs.NamesView.{declarations_of, declared_poly, declared_ideal, values_of};
+ghost use Rattle.ring_reader.specs.NamesView.{names_in, declarations_of, declared_poly, declared_ideal};
 
 use crate::names::{NamedIdeal, NamedPoly, Names};
 use script_grammar::{ReadKind, Refusal, What};
@@ -19,50 +17,58 @@ use script_tokens::{Place, behind, is_keyword, is_short, mark, name, refused, sa
 /// The greatest number of names of polynomials and ideals together.
 const MAX_NAMES: usize = 64;
 
-/// The polynomial with that name.
-pub(crate) fn find_poly<'a>(polys: &'a [NamedPoly], word: &[u8]) -> Option<&'a NamedPoly>
-    ensures value { IfSome result (λ f. (other : Terms) → value_in (map declared_poly polys.now) other word.now ≡ f.now.value.terms) }
-    ensures named { IfSome result (λ f. is_one_of (map (λ (f : NamedPoly). f.name) polys.now) word.now ≡ true) }
-    ensures there { IfSome result (λ f. Contains polys.now f.now) }
-    ensures absent { IfNone result ((other : Terms) → value_in (map declared_poly polys.now) other word.now ≡ other) }
-    ensures unnamed { IfNone result (is_one_of (map (λ (f : NamedPoly). f.name) polys.now) word.now ≡ false) }
+/// What is declared with a name. A contract sees it as in the grammar.
+pub(crate) trait Declared {
+    ghost Value: { Type 0 };
+
+    ghost seen: { Self → Named Value };
+
+    /// The name.
+    fn name(&self) -> &[u8]
+        ensures { result.now ≡ (seen self.now).name };
+}
+
+impl Declared for NamedPoly {
+    ghost Value = { Terms };
+
+    ghost seen = { declared_poly };
+
+    fn name(&self) -> &[u8] {
+        self.name.bytes()
+    }
+}
+
+impl Declared for NamedIdeal {
+    ghost Value = { List Terms };
+
+    ghost seen = { declared_ideal };
+
+    fn name(&self) -> &[u8] {
+        self.name.bytes()
+    }
+}
+
+/// What is declared with that name.
+pub(crate) fn find<'a, T: Declared>(all: &'a [T], word: &[u8]) -> Option<&'a T>
+    ensures value { IfSome result (λ f. (other : T.Value) → value_in (map T.seen all.now) other word.now ≡ (T.seen f.now).value) }
+    ensures named { IfSome result (λ f. is_one_of (names_in T.seen all.now) word.now ≡ true) }
+    ensures there { IfSome result (λ f. Contains all.now f.now) }
+    ensures absent { IfNone result ((other : T.Value) → value_in (map T.seen all.now) other word.now ≡ other) }
+    ensures unnamed { IfNone result (is_one_of (names_in T.seen all.now) word.now ≡ false) }
 {
-    for f in polys {
-        if same(f.name.bytes(), word) {
+    for f in all {
+        if same(f.name(), word) {
             return Some(f);
         }
     }
     None
 }
 
-/// The ideal with that name.
-pub(crate) fn find_ideal<'a>(ideals: &'a [NamedIdeal], word: &[u8]) -> Option<&'a NamedIdeal>
-    ensures value { IfSome result (λ f. (other : List Terms) → value_in (map declared_ideal ideals.now) other word.now ≡ map (λ g. g.terms) f.now.gens) }
-    ensures named { IfSome result (λ f. is_one_of (map (λ (f : NamedIdeal). f.name) ideals.now) word.now ≡ true) }
-    ensures there { IfSome result (λ f. Contains ideals.now f.now) }
-    ensures absent { IfNone result ((other : List Terms) → value_in (map declared_ideal ideals.now) other word.now ≡ other) }
-    ensures unnamed { IfNone result (is_one_of (map (λ (f : NamedIdeal). f.name) ideals.now) word.now ≡ false) }
+/// Whether one of them has that name.
+pub(crate) fn has<T: Declared>(all: &[T], word: &[u8]) -> bool
+    ensures { result ≡ is_one_of (names_in T.seen all.now) word.now }
 {
-    for f in ideals {
-        if same(f.name.bytes(), word) {
-            return Some(f);
-        }
-    }
-    None
-}
-
-/// Whether a polynomial has that name.
-pub(crate) fn has_poly(names: &Names, word: &[u8]) -> bool
-    ensures { result ≡ is_one_of (declarations_of names.now).polys word.now }
-{
-    find_poly(names.polys, word).is_some()
-}
-
-/// Whether an ideal has that name.
-fn has_ideal(names: &Names, word: &[u8]) -> bool
-    ensures { result ≡ is_one_of (declarations_of names.now).ideals word.now }
-{
-    find_ideal(names.ideals, word).is_some()
+    find(all, word).is_some()
 }
 
 /// Whether the word can't be declared.
@@ -71,8 +77,8 @@ fn clashes(names: &Names, word: &[u8]) -> bool
 {
     is_keyword(word)
         || same(names.ring, word)
-        || has_poly(names, word)
-        || has_ideal(names, word)
+        || has(names.polys, word)
+        || has(names.ideals, word)
         || is_short(names.letters.bytes(), word)
 }
 
@@ -95,78 +101,40 @@ pub(crate) fn new_name<'a>(names: &Names, here: Place<'a>) -> Result<(&'a [u8], 
     Ok((word, behind(here)))
 }
 
-/// The name of a polynomial that is declared.
+/// The name of one of them.
 #[tactic(auto, unfolding(script_grammar::specs::Statements::name_among))]
-pub(crate) fn poly_name<'a>(
-    names: &Names,
+pub(crate) fn known<'a, T: Declared>(
+    all: &[T],
     here: Place<'a>,
 ) -> Result<(&'a [u8], Place<'a>), Refusal>
-    ensures reads { Reads (λ x. (x.0.now, place_of x.1)) result (name_among (declarations_of names.now).polys (place_of here.entry)) }
-    ensures known { IfOk result (λ x. is_one_of (declarations_of names.now).polys x.0.now ≡ true) }
+    ensures reads { Reads (λ x. (x.0.now, place_of x.1)) result (name_among (names_in T.seen all.now) (place_of here.entry)) }
+    ensures known { IfOk result (λ x. is_one_of (names_in T.seen all.now) x.0.now ≡ true) }
     ensures ascii { IfOk result (λ x. IsAscii x.0.now) }
     ensures shorter { IfOk result (λ x. x.1.left < here.entry.left) }
 {
     let Some(word) = name(here) else {
         return Err(refused(here, ReadKind::Expected(What::Argument)));
     };
-    if has_poly(names, word) {
+    if has(all, word) {
         Ok((word, behind(here)))
     } else {
         Err(refused(here, ReadKind::UnknownName))
     }
 }
 
-/// The name of an ideal that is declared.
-#[tactic(auto, unfolding(script_grammar::specs::Statements::name_among))]
-pub(crate) fn ideal_name<'a>(
-    names: &Names,
-    here: Place<'a>,
-) -> Result<(&'a [u8], Place<'a>), Refusal>
-    ensures reads { Reads (λ x. (x.0.now, place_of x.1)) result (name_among (declarations_of names.now).ideals (place_of here.entry)) }
-    ensures known { IfOk result (λ x. is_one_of (declarations_of names.now).ideals x.0.now ≡ true) }
-    ensures ascii { IfOk result (λ x. IsAscii x.0.now) }
-    ensures shorter { IfOk result (λ x. x.1.left < here.entry.left) }
-{
-    let Some(word) = name(here) else {
-        return Err(refused(here, ReadKind::Expected(What::Argument)));
-    };
-    if has_ideal(names, word) {
-        Ok((word, behind(here)))
-    } else {
-        Err(refused(here, ReadKind::UnknownName))
-    }
-}
-
-/// The name of a polynomial in parentheses.
+/// The name of one of them in parentheses.
 #[tactic(auto, unfolding(script_grammar::specs::Statements::argument_at))]
-pub(crate) fn poly_argument<'a>(
-    names: &Names,
+pub(crate) fn argument<'a, T: Declared>(
+    all: &[T],
     here: Place<'a>,
 ) -> Result<(&'a [u8], Place<'a>), Refusal>
-    ensures reads { Reads (λ x. (x.0.now, place_of x.1)) result (argument_at (declarations_of names.now).polys (place_of here.entry)) }
-    ensures known { IfOk result (λ x. is_one_of (declarations_of names.now).polys x.0.now ≡ true) }
+    ensures reads { Reads (λ x. (x.0.now, place_of x.1)) result (argument_at (names_in T.seen all.now) (place_of here.entry)) }
+    ensures known { IfOk result (λ x. is_one_of (names_in T.seen all.now) x.0.now ≡ true) }
     ensures ascii { IfOk result (λ x. IsAscii x.0.now) }
     ensures shorter { IfOk result (λ x. x.1.left < here.entry.left) }
 {
     let after = mark(here, b'(', What::Open)?;
-    let (word, after) = poly_name(names, after)?;
-    let after = mark(after, b')', What::Close)?;
-    Ok((word, after))
-}
-
-/// The name of an ideal in parentheses.
-#[tactic(auto, unfolding(script_grammar::specs::Statements::argument_at))]
-pub(crate) fn ideal_argument<'a>(
-    names: &Names,
-    here: Place<'a>,
-) -> Result<(&'a [u8], Place<'a>), Refusal>
-    ensures reads { Reads (λ x. (x.0.now, place_of x.1)) result (argument_at (declarations_of names.now).ideals (place_of here.entry)) }
-    ensures known { IfOk result (λ x. is_one_of (declarations_of names.now).ideals x.0.now ≡ true) }
-    ensures ascii { IfOk result (λ x. IsAscii x.0.now) }
-    ensures shorter { IfOk result (λ x. x.1.left < here.entry.left) }
-{
-    let after = mark(here, b'(', What::Open)?;
-    let (word, after) = ideal_name(names, after)?;
+    let (word, after) = known(all, after)?;
     let after = mark(after, b')', What::Close)?;
     Ok((word, after))
 }

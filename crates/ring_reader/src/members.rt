@@ -13,7 +13,7 @@ ghost use Rattle.ring_reader.specs.NamesView.{declarations_of, values_of};
 ghost use Rattle.ring_reader.specs.Sound.{IsSound, IsValue, IsGenerator};
 
 use crate::expressions::expression;
-use crate::lookup::{find_poly, has_poly, poly_name};
+use crate::lookup::{find, has, known};
 use crate::names::Names;
 use crate::stop::Stop;
 use script_grammar::{ReadKind, Refusal, What};
@@ -47,7 +47,7 @@ fn no_room_for(names: &Names, word: &[u8]) -> ReadKind
         ReadKind::TooManyGenerators
     } else if is_keyword(word) {
         ReadKind::UnknownName
-    } else if has_poly(names, word) {
+    } else if has(names.polys, word) {
         ReadKind::TooManyGenerators
     } else if !is_short(names.letters.bytes(), word) {
         ReadKind::UnknownName
@@ -106,12 +106,12 @@ fn member<'a>(
 {
     if is_word(here, b"jacob") {
         let after = mark(behind(here), b'(', What::Open)?;
-        let (word, after) = poly_name(names, after)?;
+        let (word, after) = known(names.polys, after)?;
         if gens.len() + names.letters.len() > MAX_GENERATORS {
             return Err(Stop::Refused(refused(here, ReadKind::TooManyGenerators)));
         }
         let after = mark(after, b')', What::Close)?;
-        let Some(f) = find_poly(names.polys, word) else {
+        let Some(f) = find(names.polys, word) else {
             unreachable!()
         };
         push_jacobian(alloc, names, gens, &f.value)?;

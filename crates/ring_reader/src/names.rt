@@ -1,8 +1,5 @@
 //! What has been declared.
 
-ghost use Rattle.ring_reader.specs.Sound.{IsSound};
-ghost use Rattle.std.specs.Prelude.{map};
-
 use prime_field::Field;
 use script_grammar::Name;
 use sparse_poly::{Letters, Poly, Polys};

@@ -17,7 +17,7 @@ ghost use Rattle.ring_reader.specs.declared.effect.Effect.TheVariants.{Command a
 
 use crate::effect::Effect;
 use crate::expressions::expression;
-use crate::lookup::{find_ideal, find_poly, ideal_argument, ideal_name, new_name, poly_argument};
+use crate::lookup::{argument, find, known, new_name};
 use crate::members::members;
 use crate::names::{NamedIdeal, NamedPoly, Names};
 use crate::remark::{is_remark, remark};
@@ -56,7 +56,7 @@ fn same_generators(alloc: Global, names: &Names, name: &[u8]) -> Result<Polys, A
     ensures value { IfOk result (λ g. map (λ f. f.terms) g ≡ value_in (values_of names.now).ideals [] name.now) }
     ensures valid { IfOk result (All (IsGenerator names.now.field (length names.now.letters) names.now.d)) }
 {
-    let Some(ideal) = find_ideal(names.ideals, name) else {
+    let Some(ideal) = find(names.ideals, name) else {
         unreachable!()
     };
     ideal.gens.copy(alloc)
@@ -75,7 +75,7 @@ fn ideal<'a>(alloc: Global, names: &Names, here: Place<'a>) -> Result<(Effect, P
     let (word, after) = new_name(names, here)?;
     let start = mark(after, b'=', What::Equals)?;
     if is_word(start, b"std") {
-        let (other, after) = ideal_argument(names, behind(start))?;
+        let (other, after) = argument(names.ideals, behind(start))?;
         let after = mark(after, b';', What::Semicolon)?;
         let gens = same_generators(alloc, names, other)?;
         let name = Name::new(alloc, word)?;
@@ -125,7 +125,7 @@ fn function_command(
     ensures command { IfOk result (λ e. e ≡ Commanded (record { word = word; name = name.now; subject = function_subject (values_of names.now) name.now })) }
     ensures sound { IfOk result (IsSoundEffect names.now.field (length names.now.letters) names.now.d) }
 {
-    let Some(f) = find_poly(names.polys, name) else {
+    let Some(f) = find(names.polys, name) else {
         unreachable!()
     };
     let f = f.value.copy(alloc)?;
@@ -159,15 +159,15 @@ fn command<'a>(
     ensures shorter { IfOk result (λ x. x.1.left ≤ here.entry.left - 1) }
 {
     if asks_of_poly(word) {
-        let (name, after) = poly_argument(names, here)?;
+        let (name, after) = argument(names.polys, here)?;
         let after = mark(after, b';', What::Semicolon)?;
         return Ok((function_command(alloc, names, word, name)?, after));
     }
     let opened = mark(here, b'(', What::Open)?;
     let (name, after) = if is_word(opened, b"std") {
-        ideal_argument(names, behind(opened))?
+        argument(names.ideals, behind(opened))?
     } else {
-        ideal_name(names, opened)?
+        known(names.ideals, opened)?
     };
     let after = mark(after, b')', What::Close)?;
     let after = mark(after, b';', What::Semicolon)?;
