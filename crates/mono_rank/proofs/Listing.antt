@@ -7,10 +7,10 @@ use Rattle.local_order.specs.Mono.{IsWithinLimits}
 use Rattle.local_order.specs.Count.{monomial_count}
 use Rattle.local_order.proofs.Places.{small_from_degree}
 use Rattle.mono_rank.specs.Rank.{HasRank, mono_at}
-use Rattle.mono_rank.specs.Next.{next}
+use Rattle.mono_rank.specs.Next.{IsNext}
 use Rattle.mono_rank.specs.Stored.{ListsRanks}
 use Rattle.mono_rank.proofs.Places.{place, degree_of_place}
-use Rattle.mono_rank.proofs.Walk.{length-next, place-next, place-one}
+use Rattle.mono_rank.proofs.Walk.{place-is_next, place-one}
 use Rattle.mono_rank.proofs.Ranks.{rank_is_place}
 
 -- s has the monomials of the first r ranks, and m is the monomial of place r
@@ -40,12 +40,12 @@ has_rank n d m r some e f l =
     }
 
 -- a monomial joins the list, and the next one is to come
-pub lists_more : (n d : ℕ) (s : List (List ℕ)) (r : ℕ) (m : List ℕ) → 1 ≤ n → r < monomial_count n d → ListsUpTo n d s r m → ListsUpTo n d (s ++ m ∷ []) (r + 1) (next m)
-lists_more n d s r m some l h = record {
+pub lists_more : (n d : ℕ) (s : List (List ℕ)) (r : ℕ) (m b : List ℕ) → 1 ≤ n → r < monomial_count n d → ListsUpTo n d s r m → IsNext m b → ListsUpTo n d (s ++ m ∷ []) (r + 1) b
+lists_more n d s r m b some l h next = record {
   long = omega (arith, length-append s (m ∷ []), h.long);
   each = λ k g. at k (cases_lt k r) g;
-  in_ring = length-next m (omega (arith, h.in_ring)) ∙ h.in_ring;
-  next_place = omega (arith, place-next m (omega (arith, h.in_ring)), h.next_place);
+  in_ring = next.in_ring ∙ h.in_ring;
+  next_place = omega (arith, place-is_next m b (omega (arith, h.in_ring)) next, h.next_place);
 }
   where
     at : (k : ℕ) → (k < r) ⊎ (r ≤ k) → k < r + 1 → HasRank n d (mono_at (s ++ m ∷ []) k) k

@@ -9,7 +9,7 @@ use Rattle.local_order.specs.Count.{monomial_count}
 use Rattle.local_order.proofs.Order.{degree-mono_times, length-mono_times, above_trans, above_irrefl, above_cases, above-mono_times, degree_of_above}
 use Rattle.local_order.proofs.Division.{divides_iff}
 use Rattle.mono_rank.specs.Rank.{rank_of, HasRank, mono_of_rank}
-use Rattle.mono_rank.specs.Laws.{IsDegreeOrder, Numbering, IsNumbering, numbering, rank_times, rank_over, IsRanks, ranks_of}
+use Rattle.mono_rank.specs.Laws.{IsDegreeOrder, Numbering, IsNumbering, numbering, rank_times, rank_quotient, IsRanks, ranks_of}
 use Rattle.mono_rank.proofs.Ranks.{rank_low, rank_above, rank_small}
 use Rattle.mono_rank.proofs.ByRank.{mono_of_rank-is, rank-mono_of_rank}
 use Rattle.mono_rank.proofs.Products.{IsWithin, times_within, times_past, within_of_rank, times_small, times_comm, times_assoc, some_monomials, times_unit, times_le, times_grows}
@@ -28,8 +28,8 @@ numbering_has_laws n d p inv Above O D W some inverse = record {
   unit = times_unit n d Above O D W;
   le = times_le n d Above O D W;
   grows = times_grows n d Above O D W;
-  over_is = times_over n d Above O W;
-  is_over = over_times n d Above O W;
+  quotient_times = times_over n d Above O W;
+  times_quotient = over_times n d Above O W;
   lcm = lcm_from_both n d Above O W;
   least = lcm_is_least n d Above O W;
 }
@@ -111,7 +111,7 @@ product_past_degree n d x y a b some h k = (
 
 -- a monomial divides another exactly where there is a quotient of the ranks
 pub quotient_of_ranks : (n d : ℕ) (x y : List ℕ) (a b : ℕ) → HasRank n d x a → HasRank n d y b →
-    Divides x y ↔ ((s : ℕ) × (rank_over (numbering n d) b a ≡ Some s))
+    Divides x y ↔ ((s : ℕ) × (rank_quotient (numbering n d) b a ≡ Some s))
 quotient_of_ranks n d x y a b h k = (there, back)
   where
     same : divides (mono_of_rank n d a) (mono_of_rank n d b) ≡ divides x y
@@ -120,12 +120,12 @@ quotient_of_ranks n d x y a b h k = (there, back)
     long : length x ≡ length y
     long = h.in_ring ∙ sym k.in_ring
 
-    there : Divides x y → (s : ℕ) × (rank_over (numbering n d) b a ≡ Some s)
+    there : Divides x y → (s : ℕ) × (rank_quotient (numbering n d) b a ≡ Some s)
     there e =
         let s : ℕ = rank_of n d (mono_quotient (mono_of_rank n d b) (mono_of_rank n d a)) in (
           s,
           is_over (numbering n d) b a s (record { whole = rank_small n d y b k; part = rank_small n d x a h; divisor = same ∙ (divides_iff x y long).1 e; rank = refl }),
         )
 
-    back : (s : ℕ) × (rank_over (numbering n d) b a ≡ Some s) → Divides x y
+    back : (s : ℕ) × (rank_quotient (numbering n d) b a ≡ Some s) → Divides x y
     back e = (divides_iff x y long).0 (sym same ∙ (over_is (numbering n d) b a e.0 e.1).divisor)

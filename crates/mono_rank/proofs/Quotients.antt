@@ -6,7 +6,7 @@ use Rattle.std.proofs.lemmas.Bool.{and_parts, and_from, ltb-true, lt-ltb}
 use Rattle.local_order.specs.Mono.{degree, mono_times, mono_quotient, divides}
 use Rattle.local_order.proofs.Order.{degree-mono_times, length-mono_quotient, mono_times-mono_quotient, divides-mono_times}
 use Rattle.local_order.proofs.Quotients.{degree-mono_quotient, mono_quotient_of_product, common_multiple_from_both, cofactor_divides, cofactor_gives_other}
-use Rattle.mono_rank.specs.Laws.{Numbering, IsNumbering, rank_times, rank_over, rank_cofactor}
+use Rattle.mono_rank.specs.Laws.{Numbering, IsNumbering, rank_times, rank_quotient, rank_cofactor}
 use Rattle.mono_rank.proofs.Products.{IsWithin, times_within, within_of_rank, times_same, same_length, mono-times}
 
 -- ---- quotients
@@ -23,7 +23,7 @@ let_through true v s e = (refl, cc)
 let_through false v s e = absurd (cc)
 
 -- a quotient of ranks is the rank of the quotient
-pub over_is : (O : Numbering) (r a s : ℕ) → rank_over O r a ≡ Some s → IsOver O r a s
+pub over_is : (O : Numbering) (r a s : ℕ) → rank_quotient O r a ≡ Some s → IsOver O r a s
 over_is O r a s e =
     let found = let_through (ltb r O.count && (ltb a O.count && divides (O.mono a) (O.mono r))) (O.rank (mono_quotient (O.mono r) (O.mono a))) s e in
     let outer = and_parts (ltb r O.count) (ltb a O.count && divides (O.mono a) (O.mono r)) found.0 in
@@ -31,7 +31,7 @@ over_is O r a s e =
     record { whole = ltb-true r O.count outer.0; part = ltb-true a O.count inner.0; divisor = inner.1; rank = found.1 }
 
 -- where one monomial divides another, the rank of the quotient is the quotient of the ranks
-pub is_over : (O : Numbering) (r a s : ℕ) → IsOver O r a s → rank_over O r a ≡ Some s
+pub is_over : (O : Numbering) (r a s : ℕ) → IsOver O r a s → rank_quotient O r a ≡ Some s
 is_over O r a s h =
     ap (λ t. cond t (Some (O.rank (mono_quotient (O.mono r) (O.mono a)))) None)
     (and_from (ltb r O.count) (ltb a O.count && divides (O.mono a) (O.mono r)) (lt-ltb r O.count h.whole)
@@ -54,7 +54,7 @@ module _ (n d : ℕ) (Above : List ℕ → List ℕ → Type 0) (O : Numbering) 
       times_within d O a s t ∙ ap O.rank e ∙ W.back r m
 
   -- a divisor times the quotient gives back what is divided
-  pub times_over : (r a s : ℕ) → rank_over O r a ≡ Some s → rank_times d O a s ≡ r
+  pub times_over : (r a s : ℕ) → rank_quotient O r a ≡ Some s → rank_times d O a s ≡ r
   times_over r a s e =
       let h = over_is O r a s e in
       let small : s < O.count = omega (arith, W.small _ (quotient_in_ring r a h.whole) (quotient_low r a h.whole), h.rank) in
@@ -63,7 +63,7 @@ module _ (n d : ℕ) (Above : List ℕ → List ℕ → Type 0) (O : Numbering) 
       (ap (mono_times (O.mono a)) at ∙ sym (mono_times-mono_quotient (O.mono a) (O.mono r) (same_length n d Above O W a r h.part h.whole) h.divisor))
 
   -- a product that is a rank, divided by one factor, is the other
-  pub over_times : (a s : ℕ) → rank_times d O a s < O.count → rank_over O (rank_times d O a s) a ≡ Some s
+  pub over_times : (a s : ℕ) → rank_times d O a s < O.count → rank_quotient O (rank_times d O a s) a ≡ Some s
   over_times a s l =
       let t = within_of_rank d O a s l in
       let m = mono-times n d Above O W a s t in

@@ -1,8 +1,27 @@
--- The writes of the program lead to the next monomial: the first exponent that isn't 0 is cleared and passes one on.
--- First what the writes leave of the other exponents, by induction on the zeros before it, then the writes in the program's order.
+-- The step from a monomial to the next one, and the writes of the program that make it: the first exponent that isn't 0 is cleared
+-- and passes one on. First what the writes leave of the other exponents, by induction on the zeros before it, then the writes in their order.
 use Rattle.std.proofs.Common.{◌≡◌, ℕ, zero, suc, ◌+◌, ◌-◌, ◌<◌, ◌≤◌, List, [], ◌∷◌, length, get_or, set, refl, ap, ◌∙◌, arith, get_or-set_other}
-use Rattle.mono_rank.specs.Next.{next_first, next_rest, next}
 
+-- ---- the step
+-- its first exponent: what the first one that isn't 0 keeps, or one more where only the last variable occurs
+abbrev pub next_first : List ℕ → ℕ
+next_first [] = 0
+next_first (x ∷ []) = suc x
+next_first (zero ∷ y ∷ a) = next_first (y ∷ a)
+next_first (suc x ∷ y ∷ a) = x
+
+-- its other exponents: the right neighbour of the first one that isn't 0 has one more
+abbrev pub next_rest : List ℕ → List ℕ
+next_rest [] = []
+next_rest (x ∷ []) = []
+next_rest (zero ∷ y ∷ a) = 0 ∷ next_rest (y ∷ a)
+next_rest (suc x ∷ y ∷ a) = suc y ∷ a
+
+-- the next monomial
+abbrev pub next : List ℕ → List ℕ
+next a = next_first a ∷ next_rest a
+
+-- ---- what the writes leave
 -- the exponents below place i are 0
 abbrev pub IsZeroBelow : ℕ → List ℕ → Type 0
 IsZeroBelow i a = (k : ℕ) → k < i → get_or a k 0 ≡ 0

@@ -1,15 +1,18 @@
 -- The next monomial has the next place, so the walk from 1 on comes to each monomial.
 -- What its exponents tell is compared variable by variable, from a run of zeros on.
-use Rattle.std.proofs.Common.{◌≡◌, ℕ, zero, suc, ◌+◌, ◌<◌, ◌≤◌, List, [], ◌∷◌, length, refl, ap, ◌∙◌, arith}
+use Rattle.std.proofs.Common.{◌≡◌, ℕ, zero, suc, ◌+◌, ◌<◌, ◌≤◌, ◌⊎◌, List, [], ◌∷◌, length, refl, ap, sym, ◌∙◌, inl, inr, arith}
+use Rattle.std.proofs.lemmas.Bool.{cases_lt}
 use Rattle.std.proofs.lemmas.List.{length-replicate}
 use Rattle.local_order.specs.Mono.{degree, mono_one}
+use Rattle.local_order.specs.Order.{IsAbove}
 use Rattle.local_order.specs.Count.{monomial_count}
 use Rattle.local_order.proofs.Division.{degree-one}
 use Rattle.local_order.proofs.Count.{monomial_count-zero}
 use Rattle.mono_rank.specs.Rank.{fewer}
-use Rattle.mono_rank.specs.Next.{next_first, next_rest, next}
+use Rattle.mono_rank.specs.Next.{IsNext}
 use Rattle.mono_rank.proofs.Pascal.{pascal}
-use Rattle.mono_rank.proofs.Places.{below_from, place, count_same, place_sum, place_low, degree_of_place, same_of_place}
+use Rattle.mono_rank.proofs.Places.{below_from, place, count_same, place_sum, place_low, place_above, above_of_place, degree_of_place, same_of_place}
+use Rattle.mono_rank.proofs.Steps.{next_first, next_rest, next}
 
 -- the next monomial has as many exponents
 pub length-next : (a : List ℕ) → 1 ≤ length a → length (next a) ≡ length a
@@ -59,6 +62,29 @@ place-next (x ∷ a) l =
       place_sum (next (x ∷ a)) (omega (arith, long)),
       ap (λ n. monomial_count n (degree (next (x ∷ a)))) long,
     )
+
+-- so the step leads to the greatest of the monomials below
+pub step-is_next : (a : List ℕ) → 1 ≤ length a → IsNext a (next a)
+step-is_next a l = record {
+  in_ring = length-next a l;
+  below = above_of_place a (next a) (sym (length-next a l)) l (omega (arith, place-next a l));
+  greatest = λ m e h. go m e (place_above a m (sym e) l h) (cases_lt (place (next a)) (place m));
+}
+  where
+    go : (m : List ℕ) → length m ≡ length a → place a < place m → (place (next a) < place m) ⊎ (place m ≤ place (next a)) → (m ≡ next a) ⊎ IsAbove (next a) m
+    go m e h (inl k) = inr (above_of_place (next a) m (length-next a l ∙ sym e) (omega (arith, length-next a l)) k)
+    go m e h (inr k) = inl (same_of_place m (next a) (e ∙ sym (length-next a l)) (omega (arith, e)) (omega (arith, place-next a l)))
+
+-- and what comes next has the next place
+pub place-is_next : (a b : List ℕ) → 1 ≤ length a → IsNext a b → place b ≡ suc (place a)
+place-is_next a b l h = go (h.greatest (next a) (length-next a l) (step-is_next a l).below)
+  where
+    after : place a < place b
+    after = place_above a b (sym h.in_ring) l h.below
+
+    go : (next a ≡ b) ⊎ IsAbove b (next a) → place b ≡ suc (place a)
+    go (inl e) = omega (arith, ap place e, place-next a l)
+    go (inr k) = absurd (omega (arith, after, place-next a l, place_above b (next a) (h.in_ring ∙ sym (length-next a l)) (omega (arith, h.in_ring)) k))
 
 -- ---- the walk
 -- the monomial in n variables that is reached from 1 after r steps

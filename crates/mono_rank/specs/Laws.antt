@@ -38,40 +38,40 @@ abbrev pub rank_times : ℕ → Numbering → ℕ → ℕ → ℕ
 rank_times d O a b = cond (ltb a O.count && (ltb b O.count && leb (degree (O.mono a) + degree (O.mono b)) d)) (O.rank (mono_times (O.mono a) (O.mono b))) O.count
 
 -- the rank of the quotient of the monomial of rank r by that of rank a, where it divides
-abbrev pub rank_over : Numbering → ℕ → ℕ → Option ℕ
-rank_over O r a = cond (ltb r O.count && (ltb a O.count && divides (O.mono a) (O.mono r))) (Some (O.rank (mono_quotient (O.mono r) (O.mono a)))) None
+abbrev pub rank_quotient : Numbering → ℕ → ℕ → Option ℕ
+rank_quotient O r a = cond (ltb r O.count && (ltb a O.count && divides (O.mono a) (O.mono r))) (Some (O.rank (mono_quotient (O.mono r) (O.mono a)))) None
 
 -- the rank of what the monomial of rank a lacks to its least common multiple with that of rank b
 abbrev pub rank_cofactor : Numbering → ℕ → ℕ → ℕ
 rank_cofactor O a b = cond (ltb a O.count && ltb b O.count) (O.rank (mono_quotient (O.mono b) (O.mono a))) O.count
 
 -- Residues modulo p and monomials by rank: n is the number of monomials, a product beyond degree d is n or more,
--- `over r a` is r / a where a divides r, `co a b` is the least common multiple of a and b divided by a, `inv c` is an inverse of c.
+-- `quotient r a` is r / a where a divides r, `cofactor a b` is the least common multiple of a and b divided by a, and `inverse_of c` an inverse of c.
 pub record Ranks : Type 0 where
   pub p : ℕ
   pub n : ℕ
   pub times : ℕ → ℕ → ℕ
-  pub over : ℕ → ℕ → Option ℕ
-  pub co : ℕ → ℕ → ℕ
+  pub quotient : ℕ → ℕ → Option ℕ
+  pub cofactor : ℕ → ℕ → ℕ
   pub degree : ℕ → ℕ
-  pub inv : ℕ → ℕ
+  pub inverse_of : ℕ → ℕ
 
 -- the laws that all computing by rank uses
 pub record IsRanks (R : Ranks) : Type 0 where
   pub prime_pos : 0 < R.p
   pub some : 0 < R.n
-  pub inverse : (c : ℕ) → (c % R.p ≡ 0 → ⊥) → (R.inv c * c) % R.p ≡ 1 % R.p
+  pub inverse : (c : ℕ) → (c % R.p ≡ 0 → ⊥) → (R.inverse_of c * c) % R.p ≡ 1 % R.p
   pub comm : (a b : ℕ) → R.times a b ≡ R.times b a
   pub assoc : (a b c : ℕ) → R.times (R.times a b) c ≡ R.times a (R.times b c)
   pub unit : (a : ℕ) → a < R.n → R.times 0 a ≡ a
   pub le : (a b : ℕ) → R.times a b < R.n → b ≤ R.times a b
   pub grows : (a b c : ℕ) → b < c → R.times a c < R.n → R.times a b < R.times a c
-  pub over_is : (r a s : ℕ) → R.over r a ≡ Some s → R.times a s ≡ r
-  pub is_over : (a s : ℕ) → R.times a s < R.n → R.over (R.times a s) a ≡ Some s
-  pub lcm : (a b : ℕ) → R.times a (R.co a b) ≡ R.times b (R.co b a)
+  pub quotient_times : (r a s : ℕ) → R.quotient r a ≡ Some s → R.times a s ≡ r
+  pub times_quotient : (a s : ℕ) → R.times a s < R.n → R.quotient (R.times a s) a ≡ Some s
+  pub lcm : (a b : ℕ) → R.times a (R.cofactor a b) ≡ R.times b (R.cofactor b a)
   pub least : (a b x y : ℕ) → R.times a x < R.n → R.times a x ≡ R.times b y
-      → (c : ℕ) × (R.times c (R.co a b) ≡ x) × (R.times c (R.co b a) ≡ y)
+      → (c : ℕ) × (R.times c (R.cofactor a b) ≡ x) × (R.times c (R.cofactor b a) ≡ y)
 
 -- the ranks of a numbering, with residues modulo p and their inverses
 abbrev pub ranks_of : ℕ → (ℕ → ℕ) → ℕ → Numbering → Ranks
-ranks_of p inv d O = record { p = p; n = O.count; times = rank_times d O; over = rank_over O; co = rank_cofactor O; degree = λ r. degree (O.mono r); inv = inv }
+ranks_of p inv d O = record { p = p; n = O.count; times = rank_times d O; quotient = rank_quotient O; cofactor = rank_cofactor O; degree = λ r. degree (O.mono r); inverse_of = inv }

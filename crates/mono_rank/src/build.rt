@@ -4,7 +4,7 @@ ghost use Rattle.std.specs.Prelude.{◌≡◌, ◌+◌, ◌*◌, ◌<◌, ◌≤
 ghost use Rattle.local_order.specs.Mono.{degree, IsWithinLimits};
 ghost use Rattle.local_order.specs.Count.{monomial_count as number_of_monomials};
 ghost use Rattle.mono_rank.specs.Stored.{HasCounts, ListsRanks};
-ghost use Rattle.mono_rank.specs.Next.{next};
+ghost use Rattle.mono_rank.specs.Next.{IsNext};
 
 use local_order::Mono;
 use std::alloc::{AllocError, Global};
@@ -69,7 +69,7 @@ fn monomial(exps: &[u16]) -> Mono
 fn go_on(exps: &mut [u16])
     requires some { 1 ≤ length exps.old }
     requires small { degree exps.old ≤ 1000 }
-    ensures { exps.new ≡ next exps.old }
+    ensures { IsNext exps.old exps.new }
 {
     let last = exps.len() - 1;
     let mut i = 0;

@@ -59,5 +59,5 @@ pub fn products_are_by_rank()
     ensures outside { (n d p : ℕ) (inv : ℕ → ℕ) (x y : List ℕ) (a b : ℕ) → 1 ≤ n → HasRank n d x a → HasRank n d y b
         → (d < degree (mono_times x y)) ↔ ((ranks_of p inv d (numbering n d)).times a b ≡ monomial_count n d) }
     ensures quotient { (n d p : ℕ) (inv : ℕ → ℕ) (x y : List ℕ) (a b : ℕ) → 1 ≤ n → HasRank n d x a → HasRank n d y b
-        → Divides x y ↔ ((s : ℕ) × ((ranks_of p inv d (numbering n d)).over b a ≡ Some s)) }
+        → Divides x y ↔ ((s : ℕ) × ((ranks_of p inv d (numbering n d)).quotient b a ≡ Some s)) }
 {}

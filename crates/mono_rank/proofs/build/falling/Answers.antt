@@ -1,8 +1,7 @@
 use Rattle.std.specs.Vec.{with_items}
-use Rattle.std.proofs.Common.{◌≡◌, ◌∷◌, [], ◌++◌, ℕ, List, length, replicate, ◌∙◌, ap, arith, rules}
+use Rattle.std.proofs.Common.{◌≡◌, ◌∷◌, [], ◌++◌, ℕ, List, replicate, ◌∙◌, ap, subst, arith, rules}
 use Rattle.std.proofs.lemmas.List.{with_items_is}
-use Rattle.mono_rank.specs.Next.{next}
-use Rattle.mono_rank.proofs.Walk.{length-next}
+use Rattle.mono_rank.specs.Next.{IsNext}
 use Rattle.mono_rank.proofs.Listing.{lists_none, lists_more, has_rank, can_be_made}
 use Rattle.mono_rank.proofs.build.falling.Goals as goal
 
@@ -25,8 +24,8 @@ go_on-requires-clause-small c =
 pub loop-preserved : goal.loop-preserved
 loop-preserved c =
     let now = c.loop.exps.items in
-    let next_is : c.go_on.new.exps ≡ next now = c.go_on.ensures ∙ ap next c.deref_mut.ensures.value in
-    let more = lists_more c.args.n c.args.d c.loop.all.items c.loop.counter now c.requires.some (omega arith) c.loop.invariant in
-    let same : (with_items c.loop.exps c.go_on.new.exps).items ≡ c.go_on.new.exps = with_items_is c.loop.exps c.go_on.new.exps (omega (arith, ap length next_is, length-next now (omega (arith, c.loop.invariant.in_ring)), c.loop.exps.ok.0)) in
+    let next : IsNext now c.go_on.new.exps = subst (λ m. IsNext m c.go_on.new.exps) c.deref_mut.ensures.value c.go_on.ensures in
+    let more = lists_more c.args.n c.args.d c.loop.all.items c.loop.counter now c.go_on.new.exps c.requires.some (omega arith) c.loop.invariant next in
+    let same : (with_items c.loop.exps c.go_on.new.exps).items ≡ c.go_on.new.exps = with_items_is c.loop.exps c.go_on.new.exps (omega (arith, next.in_ring, c.loop.exps.ok.0)) in
     let pushed : c.push.new.self.items ≡ c.loop.all.items ++ now ∷ [] = c.in_ok-push.ensures.items ∙ ap (λ (m : List ℕ). c.loop.all.items ++ m ∷ []) (c.monomial.ensures ∙ c.deref.ensures.value) in
-    rw (pushed, same, next_is) more
+    rw (pushed, same) more
