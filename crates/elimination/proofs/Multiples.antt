@@ -17,9 +17,9 @@ pub row_of_coefs : (p n d : ℕ) (f : Poly) (r : List ℕ) → 1 ≤ n → IsRow
 row_of_coefs p n d f r some h j l = h.coefs (mono_at (by_rank n d) j) j (rank-by_rank n d j some l)
 
 -- a row less a multiple of another
-pub less_at : (p n d c : ℕ) (g r s : List ℕ) → 1 ≤ n → SubtractsMultiple p n d c 0 g r s → (j : ℕ) → j < monomial_count n d →
+pub subtracted_at : (p n d c : ℕ) (g r s : List ℕ) → 1 ≤ n → SubtractsMultiple p n d c 0 g r s → (j : ℕ) → j < monomial_count n d →
     get_or s j 0 ≡ (get_or r j 0 + (p - c) * get_or g j 0) % p
-less_at p n d c g r s some h j l =
+subtracted_at p n d c g r s some h j l =
     let m = mono_of_rank n d j in
     let k = rank-mono_of_rank n d j some l in
     h.multiples (mono_one n) m j j (rank-one n d some) k (subst (λ x. HasRank n d x j) (sym (one_times n m k.in_ring)) k)

@@ -6,6 +6,7 @@ use Rattle.std.proofs.lemmas.Bool.{cases_lt}
 use Rattle.std.proofs.lemmas.List.{length-set}
 use Rattle.prime_field.proofs.Residue.{add_same, mul_same}
 use Rattle.trunc_row.specs.Rows.{IsRow}
+use Rattle.trunc_row.proofs.Residues.{row_small}
 use Rattle.elimination.specs.Pivots.{Rows, row_at, combined, IsPivot, ArePivots, IsCombination, IsRemainder, IsMadeOf, Joins}
 use Rattle.elimination.proofs.Combined.{put, put_at, combined-put, combined-put_none, combined-set, combined-scale}
 
@@ -58,10 +59,6 @@ remainder_step p n rows i c f r s t e z h = record { factor = put (λ k. 0) i c;
         ∙ ap (λ w. w % p) (let e : (x + f * y) + c * y ≡ x + (c + f) * y = omega arith in e)
         ∙ add_same p x x ((c + f) * y) 0 refl (mul_same p (c + f) 0 y y (z ∙ sym (zero-mod p)) refl ∙ ap (λ w. w % p) q)
         ∙ ap (λ w. w % p) (let e : x + 0 ≡ x = omega arith in e))
-
--- a number of a row is a residue
-pub row_small : (p n : ℕ) (r : List ℕ) (j : ℕ) → IsRow p n r → j < n → get_or r j 0 < p
-row_small p n r j h l = h.residues j 0 (omega (arith, h.full))
 
 -- a residue and its opposite add up to 0
 pub opposite_sum : (p c : ℕ) → c < p → (c + (p - c)) % p ≡ 0

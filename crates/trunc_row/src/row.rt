@@ -16,7 +16,7 @@ use std::alloc::{AllocError, Global};
 use std::marker::Model;
 
 /// A polynomial cut beyond a degree: its coefficient at each monomial up to this degree, by the monomial's rank.
-/// A contract sees the list of the residues. Only [`Row::zero`] takes memory.
+/// A contract sees the list of the residues. No call but [`Row::zero`] takes an allocator.
 #[derive(Drop)]
 pub struct Row {
     residues: Vec<u32>,

@@ -1,7 +1,8 @@
 use Rattle.std.proofs.Common.{◌≡◌, ◌≤◌, ◌<◌, ◌*◌, ◌%◌, length, get_or, None, refl, sym, ◌∙◌, ap, subst, arith}
 use Rattle.trunc_row.specs.Rows.{IsRow}
 use Rattle.elimination.specs.Pivots.{row_at}
-use Rattle.elimination.proofs.Remainders.{row_small, joins_nothing, joins_row, pivots_with}
+use Rattle.trunc_row.proofs.Residues.{row_small}
+use Rattle.elimination.proofs.Remainders.{joins_nothing, joins_row, pivots_with}
 use Rattle.elimination.proofs.Reduction.{no_row}
 use Rattle.elimination.proofs.pivots.insert.Goals as goal
 
