@@ -3,7 +3,5 @@
 
 mod cover;
 mod marks;
-#[cfg(test)]
-mod tests;
 
 pub use cover::Cover;

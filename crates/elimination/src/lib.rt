@@ -8,6 +8,3 @@ mod places;
 mod products;
 
 pub use echelon::Echelon;
-
-#[cfg(test)]
-mod tests;

@@ -14,6 +14,3 @@ pub use memory::{MemSink, MemSource};
 pub use standard::{NoSink, StdSink, StdSource};
 pub use traits::{Failed, Sink, Source};
 pub use whole::{ReadAllError, read_all, write_all_counted};
-
-#[cfg(test)]
-mod tests;

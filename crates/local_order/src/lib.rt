@@ -5,7 +5,5 @@ mod compare;
 pub mod laws;
 mod mono;
 mod products;
-#[cfg(test)]
-mod tests;
 
 pub use mono::{MAX_EXPONENT, MAX_VARIABLES, Mono};

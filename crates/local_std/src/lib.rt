@@ -18,6 +18,3 @@ mod words;
 pub use gate::{Gate, OpenGate};
 pub use outcome::Status;
 pub use top::run_lstd;
-
-#[cfg(test)]
-mod tests;

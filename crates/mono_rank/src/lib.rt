@@ -5,8 +5,6 @@ mod build;
 pub mod laws;
 mod place;
 mod table;
-#[cfg(test)]
-mod tests;
 
 pub use build::monomial_count;
 pub use table::{MAX_MONOMIALS, RankError, RankTable};

@@ -3,7 +3,5 @@
 
 mod field;
 pub mod laws;
-#[cfg(test)]
-mod tests;
 
 pub use field::Field;

@@ -22,6 +22,3 @@ mod values;
 pub use error::ReadError;
 pub use script::read_script;
 pub use script_grammar::{Command, Commands, Name, ReadKind, Script, Subject, What, Word};
-
-#[cfg(test)]
-mod tests;

@@ -19,6 +19,3 @@ pub use poly::Poly;
 pub use polys::Polys;
 pub use problem::Problem;
 pub use term::PolyTerm;
-
-#[cfg(test)]
-mod tests;

@@ -6,8 +6,6 @@ pub mod laws;
 mod pick;
 mod ranks;
 mod stair;
-#[cfg(test)]
-mod tests;
 
 pub use ranks::Ranks;
 pub use stair::Stair;

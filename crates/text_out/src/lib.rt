@@ -13,6 +13,3 @@ pub use answer::{Answer, Monos};
 pub use block::block_text;
 pub use mono::mono_text;
 pub use poly::poly_text;
-
-#[cfg(test)]
-mod tests;

@@ -3,7 +3,5 @@
 
 mod loops;
 mod row;
-#[cfg(test)]
-mod tests;
 
 pub use row::Row;

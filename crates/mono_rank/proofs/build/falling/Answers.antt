@@ -27,5 +27,6 @@ loop-preserved c =
     let next : IsNext now c.go_on.new.exps = subst (λ m. IsNext m c.go_on.new.exps) c.deref_mut.ensures.value c.go_on.ensures in
     let more = lists_more c.args.n c.args.d c.loop.all.items c.loop.counter now c.go_on.new.exps c.requires.some (omega arith) c.loop.invariant next in
     let same : (with_items c.loop.exps c.go_on.new.exps).items ≡ c.go_on.new.exps = with_items_is c.loop.exps c.go_on.new.exps (omega (arith, next.in_ring, c.loop.exps.ok.0)) in
-    let pushed : c.push.new.self.items ≡ c.loop.all.items ++ now ∷ [] = c.in_ok-push.ensures.items ∙ ap (λ (m : List ℕ). c.loop.all.items ++ m ∷ []) (c.monomial.ensures ∙ c.deref.ensures.value) in
+    let pushed : c.push.new.self.items ≡ c.loop.all.items ++ now ∷ [] =
+    ◌∙◌ {A = List (List ℕ)} c.in_ok-push.ensures.items (ap (λ (m : List ℕ). c.loop.all.items ++ m ∷ []) (c.monomial.ensures ∙ c.deref.ensures.value)) in
     rw (pushed, same) more

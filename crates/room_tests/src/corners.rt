@@ -1,0 +1,23 @@
+//! Corners of leads in x and y of degree at most 4, whose monomials have the ranks 1, x, y, x^2, x*y, y^2, ..
+
+use corner_word::Cover;
+use mono_rank::RankTable;
+use std::process::Abort;
+use std::test::Fail;
+
+#[test]
+fn corner_of_squares(rt: HostRuntime) -> Result<(), Fail> {
+    let table = RankTable::new(rt.alloc(), 2, 4)?;
+    let mut cover = Cover::new(rt.alloc(), &table)?;
+    assert_eq!(rt; cover.corner(), 15);
+    // x^2 leaves the powers of y.
+    cover.add(&table, 3);
+    assert_eq!(rt; cover.corner(), 15);
+    // With y^2 the last that is no multiple is x*y.
+    cover.add(&table, 5);
+    assert_eq!(rt; cover.corner(), 5);
+    // The lead 1.
+    cover.add(&table, 0);
+    assert_eq!(rt; cover.corner(), 0);
+    Ok(())
+}

@@ -1,0 +1,80 @@
+//! Each call on monomials that were worked out by hand.
+
+ghost use Rattle.std.specs.Prelude.{◌≡◌, length, IfOk};
+
+use crate::build::FALLING;
+use local_order::Mono;
+use std::test::Fail;
+
+fn monomial(exps: &[u16]) -> Result<Mono, Fail>
+    ensures { IfOk result (λ m. m ≡ exps.now) }
+{
+    Ok(Mono::new(exps).ok_or("no monomial")?)
+}
+
+/// The exponents of the first three variables, or zeros where there is no monomial.
+fn exponents(monomial: Option<Mono>) -> [u16; 3] {
+    let mut exps = [0; 3];
+    if let Some(m) = monomial {
+        for i in 0..m.n().min(3) {
+            exps[i as usize] = m.exp(i);
+        }
+    }
+    exps
+}
+
+#[test]
+fn monomials_of_degree_four_fall(rt: HostRuntime) -> Result<(), Fail> {
+    for (i, first) in FALLING.iter().enumerate() {
+        for (j, second) in FALLING.iter().enumerate() {
+            let a = monomial(&first[..])?;
+            let b = monomial(&second[..])?;
+            assert_eq!(rt; a.cmp_ds(&b), j.cmp(&i), "at {i} and {j}");
+        }
+    }
+    Ok(())
+}
+
+#[test]
+fn limits(rt: HostRuntime) {
+    let some = [1000; 9];
+    for n in 1..9 {
+        assert!(rt; Mono::new(&some[..n]).is_some(), "{n} variables");
+    }
+    assert!(rt; Mono::new(&some[..0]).is_none());
+    assert!(rt; Mono::new(&some).is_none());
+    assert!(rt; Mono::new(&[0, 1001, 0]).is_none());
+    assert_eq!(rt; std::mem::size_of::<Mono>(), 20);
+}
+
+#[test]
+fn divisors(rt: HostRuntime) -> Result<(), Fail> {
+    let a = monomial(&[2, 1, 0])?;
+    let b = monomial(&[1, 0, 3])?;
+    let x = monomial(&[1, 0, 0])?;
+    let answers = [
+        x.divides(&a),
+        x.divides(&b),
+        a.divides(&x),
+        a.coprime(&b),
+        x.coprime(&b),
+        monomial(&[0, 5, 0])?.coprime(&b),
+    ];
+    assert_eq!(rt; answers, [true, true, false, false, false, true]);
+    assert_eq!(rt; exponents(a.quotient(&x)), [1, 1, 0]);
+    assert!(rt; a.quotient(&b).is_none());
+    Ok(())
+}
+
+#[test]
+fn products(rt: HostRuntime) -> Result<(), Fail> {
+    let a = monomial(&[2, 1, 0])?;
+    let x = monomial(&[1, 0, 0])?;
+    let high = monomial(&[999, 0, 1000])?;
+    assert_eq!(rt; [a.n(), a.degree(), u32::from(a.exp(0))], [3, 3, 2]);
+    assert_eq!(rt; exponents(a.times(&x)), [3, 1, 0]);
+    assert_eq!(rt; exponents(Some(a.lcm(&high))), [999, 1, 1000]);
+    assert_eq!(rt; exponents(high.times(&x)), [1000, 0, 1000]);
+    assert!(rt; high.times(&a).is_none());
+    Ok(())
+}

@@ -1,0 +1,120 @@
+// What no clause shows: the calls succeed, and the adapters hand on std's bytes and faults.
+ghost use Rattle.std.specs.Prelude.{◌≤◌};
+
+use io_edge::*;
+use std::alloc::Global;
+use std::io::{self, Read, Write};
+use std::test::Fail;
+
+/// A reader that gives one byte a call, and fails at the call with this number.
+#[derive(Drop)]
+struct FailingReader {
+    call: u64,
+    failing: u64,
+}
+
+impl Read for FailingReader {
+    fn read(&mut self, buf: &mut [u8]) -> io::Result<usize> {
+        let call = self.call;
+        self.call = call.saturating_add(1);
+        if call == self.failing {
+            return Err(io::Error::from(io::ErrorKind::Other));
+        }
+        match buf {
+            [] => Ok(0),
+            [first, ..] => {
+                *first = b'a';
+                Ok(1)
+            }
+        }
+    }
+}
+
+/// A writer that takes nothing.
+#[derive(Drop)]
+struct FullWriter;
+
+impl Write for FullWriter {
+    fn write(&mut self, _buf: &[u8]) -> io::Result<usize> {
+        Ok(0)
+    }
+
+    fn flush(&mut self) -> io::Result<()> {
+        Ok(())
+    }
+}
+
+fn source(alloc: Global, text: &[u8], piece: usize, failing: &[u64]) -> Result<MemSource, Fail>
+    requires { 1 ≤ piece }
+{
+    Ok(MemSource::new(text.to_vec(alloc)?, piece, failing.to_vec(alloc)?))
+}
+
+#[test]
+fn memory_source_is_read_to_its_end(rt: HostRuntime) -> Result<(), Fail> {
+    let alloc = rt.alloc();
+    for piece in 1..5 {
+        let mut whole = source(alloc, b"abc", piece, &[])?;
+        let bytes = read_all(alloc, &mut whole, 3).ok().ok_or("not read")?;
+        assert_eq!(rt; bytes.as_slice(), b"abc".as_slice());
+        let mut long = source(alloc, b"abcd", piece, &[])?;
+        assert_eq!(rt;
+            read_all(alloc, &mut long, 3).err(),
+            Some(ReadAllError::TooLong)
+        );
+        let mut failing = source(alloc, b"abc", piece, &[1])?;
+        assert_eq!(rt;
+            read_all(alloc, &mut failing, 3).err(),
+            Some(ReadAllError::Failed)
+        );
+    }
+    Ok(())
+}
+
+#[test]
+fn memory_sink_keeps_what_fits(rt: HostRuntime) -> Result<(), Fail> {
+    let alloc = rt.alloc();
+    let mut sink = MemSink::new(alloc, 7, 3, Vec::new(alloc))?;
+    assert_eq!(rt; write_all_counted(&mut sink, b"1 std i\n"), Err(Failed));
+    assert_eq!(rt; sink.bytes(), b"1 std i".as_slice());
+    let mut sink = MemSink::new(alloc, 100, 3, [1].to_vec(alloc)?)?;
+    assert_eq!(rt; write_all_counted(&mut sink, b"1 std i\n"), Err(Failed));
+    assert_eq!(rt; sink.bytes(), b"1 s".as_slice());
+    let mut sink = MemSink::new(alloc, 100, 3, Vec::new(alloc))?;
+    assert_eq!(rt; write_all_counted(&mut sink, b"1 std i\n"), Ok(()));
+    assert_eq!(rt; sink.bytes(), b"1 std i\n".as_slice());
+    assert_eq!(rt; write_all_counted(&mut NoSink, b"1 std i\n"), Ok(()));
+    Ok(())
+}
+
+#[test]
+fn a_reader_of_std_is_a_source(rt: HostRuntime) -> Result<(), Fail> {
+    let alloc = rt.alloc();
+    let mut source = StdSource::new(b"abc".as_slice());
+    let bytes = read_all(alloc, &mut source, 3).ok().ok_or("not read")?;
+    assert_eq!(rt; bytes.as_slice(), b"abc".as_slice());
+    let mut failing = StdSource::new(FailingReader {
+        call: 0,
+        failing: 2,
+    });
+    assert_eq!(rt;
+        read_all(alloc, &mut failing, 100).err(),
+        Some(ReadAllError::Failed)
+    );
+    assert_eq!(rt;
+        read_all(alloc, &mut failing, 100).err(),
+        Some(ReadAllError::TooLong)
+    );
+    Ok(())
+}
+
+#[test]
+fn a_writer_of_std_is_a_sink(rt: HostRuntime) -> Result<(), Fail> {
+    let alloc = rt.alloc();
+    let mut sink = StdSink::new(Vec::new(alloc));
+    assert_eq!(rt; write_all_counted(&mut sink, b"abc"), Ok(()));
+    let mut full = StdSink::new(FullWriter);
+    assert_eq!(rt; write_all_counted(&mut full, b"abc"), Err(Failed));
+    assert_eq!(rt; write_all_counted(&mut full, b""), Ok(()));
+    Ok(())
+}

@@ -1,0 +1,9 @@
+//! Tests of whole scripts: what the reader makes of one, and what the top call answers.
+//!
+//! They stand in a crate of their own, as those of `room_tests` do.
+#![tactic(auto)]
+
+#[cfg(test)]
+mod answers;
+#[cfg(test)]
+mod reading;

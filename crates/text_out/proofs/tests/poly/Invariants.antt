@@ -1,5 +1,0 @@
-use Rattle.sparse_poly.specs.Poly.{IsIn}
-use Rattle.text_out.proofs.tests.poly.Given as goal
-
-abbrev pub invariant-loop-written : goal.invariant-loop-written
-invariant-loop-written l = IsIn 2 l.all.items
