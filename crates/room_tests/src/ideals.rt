@@ -52,7 +52,10 @@ fn is_low(f: &Poly, d: u32) -> bool
 fn is_allowed(n: u32, d: u32) -> bool
     ensures { IsTrue result → (1 ≤ n) × (n ≤ 3) × (1 ≤ d) × (d ≤ 255) × (number_of_monomials n d ≤ 4096) }
 {
-    1 <= n && n <= 3 && 1 <= d && d <= 255 && monomial_count(n, d) <= 4096
+    if n < 1 || n > 3 || d < 1 || d > 255 {
+        return false;
+    }
+    monomial_count(n, d) <= 4096
 }
 
 fn problem(alloc: Global, p: u32, n: u32, d: u32, gens: &[&[Term]]) -> Result<Problem, Fail> {
