@@ -400,6 +400,40 @@ fn longest_scripts(rt: HostRuntime) -> Result<(), Fail> {
 }
 
 #[test]
+fn longest_numerals(rt: HostRuntime) -> Result<(), Fail> {
+    let alloc = rt.alloc();
+
+    // nothing but digits, as many as a script may have
+    let digits = repeated(alloc, b"", b"7", 1_048_576, b"")?;
+    assert!(rt;
+        is_answered(
+            &rt,
+            alloc,
+            &digits,
+            Status::Input,
+            b"line 1 column 1: expected ring\n"
+        )?
+    );
+
+    // a numeral of 1 and zeros that fills a script, and is 1 or 10 modulo 11
+    let before = b"ring r=11,(x),ds;\nnoether=x^2;\nideal i=1".as_slice();
+    let after = b"x; std(i);\n".as_slice();
+    let zeros = 1_048_576_u32.saturating_sub((before.len() + after.len()) as u32);
+    let full = repeated(alloc, before, b"0", zeros, after)?;
+    assert_eq!(rt; full.len(), 1_048_576);
+    assert!(rt;
+        is_answered(
+            &rt,
+            alloc,
+            &full,
+            Status::Fits,
+            b"1 std i\n_[1]=x\ncorner 1\ndim 1\n"
+        )?
+    );
+    Ok(())
+}
+
+#[test]
 fn most_monomials(rt: HostRuntime) -> Result<(), Fail> {
     let alloc = rt.alloc();
     let script = b"ring r=32003,(x,y,z),ds;\nnoether=x^27;\nideal i=x2,y2,z2; std(i);\n";
