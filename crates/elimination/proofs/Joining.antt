@@ -13,8 +13,8 @@ use Rattle.sparse_poly.proofs.Span.{scale, linear, total-scale}
 use Rattle.mono_rank.specs.Rank.{mono_at, ListsMonomials}
 use Rattle.elimination.specs.Rows.{polynomial_of, HasCoefficients}
 use Rattle.elimination.proofs.Falling.{falling_list}
-use Rattle.elimination.specs.Pivots.{Rows, row_at, combined, ArePivots, IsCombination, IsMadeOf, Joins}
-use Rattle.elimination.specs.Echelon.{HasMultiples, AreMembers, Covers, generator}
+use Rattle.elimination.specs.Pivots.{Rows, row_at, combined, ArePivots, IsCombination, IsCombinationWith, Joins}
+use Rattle.elimination.specs.Echelon.{HasMultiples, AreMembers, Spans, generator}
 use Rattle.elimination.proofs.Coefficients.{polys_of, all_full, total-linear, total-polynomial_of, agree_at, listed}
 use Rattle.elimination.proofs.Members.{multiple_in, linear_in}
 use Rattle.sparse_poly.proofs.Closure.{IsInIdeal-scale}
@@ -44,7 +44,7 @@ covers_still p n old rows r v h c =
 
 -- a row that is made of a member's and of rows of members is a member's
 made_in : (P : Problem) (ms : List (List ℕ)) (rows : Rows) (f : Poly) (r s : List ℕ) → ListsMonomials P.n P.d ms → ArePivots P.p (length ms) rows → AreMembers P ms rows → IsInIdeal P f →
-    HasCoefficients P.p ms r f → length s ≡ length ms → IsMadeOf P.p (length ms) rows r s → IsInIdeal P (polynomial_of ms s)
+    HasCoefficients P.p ms r f → length s ≡ length ms → IsCombinationWith P.p (length ms) rows r s → IsInIdeal P (polynomial_of ms s)
 made_in P ms rows f r s all pivots members inside value full made =
     IsInIdeal-agree P (scale made.times f ++ linear made.factor (polys_of ms rows)) (polynomial_of ms s)
     (agree_at P ms (polynomial_of ms s) (scale made.times f ++ linear made.factor (polys_of ms rows)) all same)
@@ -75,17 +75,17 @@ has_more P ms k j old rows r all kl jl h value joins pivots = record {
     f : Poly
     f = term_times 1 (mono_at ms j) (generator P k)
 
-    member : (i : ℕ) (s : List ℕ) → row_at rows i ≡ Some s → (row_at old i ≡ Some s) ⊎ IsMadeOf P.p (length ms) old r s → IsInIdeal P (polynomial_of ms s)
+    member : (i : ℕ) (s : List ℕ) → row_at rows i ≡ Some s → (row_at old i ≡ Some s) ⊎ IsCombinationWith P.p (length ms) old r s → IsInIdeal P (polynomial_of ms s)
     member i s e (inl o) = h.members i s o
     member i s e (inr m) =
         made_in P ms old (term_times 1 (mono_at ms j) (generator P k)) r s all h.pivots h.members
         (multiple_in P k (mono_at ms j) kl (listed P.n P.d ms j all jl).0) value (pivots.pivot i s e).row.full m
 
-    here : (i : ℕ) → i < j + 1 → (i < j) ⊎ (j ≤ i) → Covers P ms rows k i
+    here : (i : ℕ) → i < j + 1 → (i < j) ⊎ (j ≤ i) → Spans P ms rows k i
     here i l (inl m) = covers_still P.p (length ms) old rows r _ joins (h.here i m)
     here i l (inr m) =
         let same : j ≡ i = omega arith in
-        subst (λ x. Covers P ms rows k x) same
+        subst (λ x. Spans P ms rows k x) same
         (record {
           factor = joins.covers.factor;
           equation = λ q ql. sym (mod-mod (total (term_times 1 (mono_at ms j) (generator P k)) (mono_at ms q)) P.p) ∙ ap (λ x. x % P.p) (sym (value q ql)) ∙ joins.covers.equation q ql;
@@ -100,6 +100,6 @@ has_next P ms k j rows all h = record {
   here = λ i l. absurd (omega arith);
 }
   where
-    covered : (g i : ℕ) → i < length ms → (g < k) ⊎ (k ≤ g) → g < k + 1 → Covers P ms rows g i
+    covered : (g i : ℕ) → i < length ms → (g < k) ⊎ (k ≤ g) → g < k + 1 → Spans P ms rows g i
     covered g i m (inl a) l = h.earlier g a i m
-    covered g i m (inr a) l = let same : k ≡ g = omega arith in subst (λ x. Covers P ms rows x i) same (h.here i (omega arith))
+    covered g i m (inr a) l = let same : k ≡ g = omega arith in subst (λ x. Spans P ms rows x i) same (h.here i (omega arith))

@@ -84,7 +84,7 @@ module _ (P : Problem) (ms : List (List ℕ)) (rows : Rows) (form : IsEchelonFor
     where
       go : (j : ℕ) × (j < length ms) × (mono_at ms j ≡ a) → Span P (polys_of ms rows) (term_times 1 a (generator P k))
       go (j, jl, e) =
-          let c = form.covers k kl j jl in
+          let c = form.spans k kl j jl in
           subst (λ x. Span P (polys_of ms rows) (term_times 1 x (generator P k))) e
           (record {
             factor = c.factor;

@@ -7,7 +7,7 @@ use Rattle.std.proofs.lemmas.List.{length-set}
 use Rattle.prime_field.proofs.Residue.{add_same, mul_same}
 use Rattle.trunc_row.specs.Rows.{IsRow}
 use Rattle.trunc_row.proofs.Residues.{row_small}
-use Rattle.elimination.specs.Pivots.{Rows, row_at, combined, IsPivot, ArePivots, IsCombination, IsRemainder, IsMadeOf, Joins}
+use Rattle.elimination.specs.Pivots.{Rows, row_at, combined, IsPivot, ArePivots, IsCombination, IsRemainder, IsCombinationWith, Joins}
 use Rattle.elimination.proofs.Combined.{put, put_at, combined-put, combined-put_none, combined-set, combined-scale}
 
 -- ---- combinations
@@ -137,7 +137,7 @@ module _ (p n : ℕ) (rows : Rows) (r s t : List ℕ) (i x y : ℕ) (inverse : (
   }
 
   -- the new row is made of the row and the old ones
-  made : IsMadeOf p n rows r t
+  made : IsCombinationWith p n rows r t
   made = record { times = y; factor = λ k. (y * (p - 1)) * rest.factor k; equation = equation }
     where
       equation : (j : ℕ) → j < n → get_or t j 0 % p ≡ (y * get_or r j 0 + combined (λ k. (y * (p - 1)) * rest.factor k) rows j) % p
@@ -165,8 +165,8 @@ module _ (p n : ℕ) (rows : Rows) (r s t : List ℕ) (i x y : ℕ) (inverse : (
     comes = λ k u e. come k u (other_row rows i k t u within e);
   }
     where
-      come : (k : ℕ) (u : List ℕ) → ((k ≡ i) × (t ≡ u)) ⊎ (row_at rows k ≡ Some u) → (row_at rows k ≡ Some u) ⊎ IsMadeOf p n rows r u
-      come k u (inl e) = inr (subst (λ w. IsMadeOf p n rows r w) e.1 made)
+      come : (k : ℕ) (u : List ℕ) → ((k ≡ i) × (t ≡ u)) ⊎ (row_at rows k ≡ Some u) → (row_at rows k ≡ Some u) ⊎ IsCombinationWith p n rows r u
+      come k u (inl e) = inr (subst (λ w. IsCombinationWith p n rows r w) e.1 made)
       come k u (inr e) = inl e
 
   -- and the rows are pivots still

@@ -44,8 +44,8 @@ pub record IsReduction (p n from : ℕ) (rows : Rows) (r s : List ℕ) : Type 0 
   pub clear : (j : ℕ) (t : List ℕ) → from ≤ j → row_at rows j ≡ Some t → slice_index s j ≡ 0
   pub remainder : IsRemainder p n rows r s
 
--- s is a multiple of r and a combination of the rows
-pub record IsMadeOf (p n : ℕ) (rows : Rows) (r s : List ℕ) : Type 0 where
+-- s is a combination of r and the rows
+pub record IsCombinationWith (p n : ℕ) (rows : Rows) (r s : List ℕ) : Type 0 where
   pub times : ℕ
   pub factor : ℕ → ℕ
   pub equation : (j : ℕ) → j < n → slice_index s j % p ≡ (times * slice_index r j + combined factor rows j) % p
@@ -54,4 +54,4 @@ pub record IsMadeOf (p n : ℕ) (rows : Rows) (r s : List ℕ) : Type 0 where
 pub record Joins (p n : ℕ) (old : Rows) (r : List ℕ) (rows : Rows) : Type 0 where
   pub covers : IsCombination p n rows (slice_index r)
   pub keeps : (c : ℕ → ℕ) → IsCombination p n rows (combined c old)
-  pub comes : (i : ℕ) (s : List ℕ) → row_at rows i ≡ Some s → (row_at old i ≡ Some s) ⊎ IsMadeOf p n old r s
+  pub comes : (i : ℕ) (s : List ℕ) → row_at rows i ≡ Some s → (row_at old i ≡ Some s) ⊎ IsCombinationWith p n old r s

@@ -2,7 +2,6 @@
 
 use corner_word::Cover;
 use mono_rank::RankTable;
-use std::process::Abort;
 use std::test::Fail;
 
 #[test]

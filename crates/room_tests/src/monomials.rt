@@ -1,6 +1,6 @@
 //! Each call on monomials that were worked out by hand.
 
-ghost use Rattle.std.specs.Prelude.{◌≡◌, length, IfOk};
+ghost use Rattle.std.specs.Prelude.{◌≡◌, IfOk};
 
 use crate::build::FALLING;
 use local_order::Mono;

@@ -1,9 +1,9 @@
 //! Ranks that were worked out by hand, and whole tables.
 
-ghost use Rattle.std.specs.Prelude.{◌≡◌, ◌≤◌, length, IfOk};
+ghost use Rattle.std.specs.Prelude.{◌≤◌};
 
 use crate::build::{FALLING, mono};
-use mono_rank::{MAX_MONOMIALS, RankError, RankTable, monomial_count};
+use mono_rank::{RankError, RankTable};
 use std::alloc::Global;
 use std::process::Abort;
 use std::test::Fail;

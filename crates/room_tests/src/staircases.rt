@@ -2,7 +2,6 @@
 
 use mono_rank::RankTable;
 use staircase::{Ranks, Stair};
-use std::process::Abort;
 use std::test::Fail;
 
 #[test]

@@ -4,7 +4,6 @@ ghost use Rattle.std.specs.Prelude.{◌≡◌, false, length, All, IfOk};
 ghost use Rattle.std.specs.Str.{IsAscii};
 ghost use Rattle.sparse_poly.specs.Poly.{IsCanonical};
 ghost use Rattle.script_grammar.specs.Statements.{is_on_poly};
-ghost use Rattle.text_out.specs.Answers.{IsInRing};
 
 use crate::build::{Exponents, field, mono, poly};
 use prime_field::Field;

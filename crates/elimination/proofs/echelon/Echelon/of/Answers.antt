@@ -34,6 +34,6 @@ invariant_of-result c =
         monomials = subst (λ (s : Shape). ListsMonomials P.n P.d (by_rank s.n s.d)) (sym c.in_ok-table.ensures) all;
         pivots = made.pivots;
         members = made.members;
-        covers = λ k l j m. made.earlier k (omega (arith, c.loop-k-test.false, c.len-k-end.ensures, l, ap length c.gens.ensures.value, length-map P.gens (in_variables P.n))) j m;
+        spans = λ k l j m. made.earlier k (omega (arith, c.loop-k-test.false, c.len-k-end.ensures, l, ap length c.gens.ensures.value, length-map P.gens (in_variables P.n))) j m;
       },
     )
