@@ -7,6 +7,7 @@ pub mod ByRank
 pub mod Listing
 pub mod Counts
 pub mod Looks
+pub mod Trades
 pub mod Degrees
 pub mod Products
 pub mod Quotients

@@ -9,7 +9,8 @@ use Rattle.local_order.specs.Count.{monomial_count}
 use Rattle.local_order.proofs.Order.{degree-mono_times, length-mono_times, above_trans, above_irrefl, above_cases, above-mono_times, degree_of_above}
 use Rattle.local_order.proofs.Division.{divides_iff}
 use Rattle.mono_rank.specs.Rank.{rank_of, HasRank, mono_of_rank}
-use Rattle.mono_rank.specs.Laws.{IsDegreeOrder, Numbering, IsNumbering, numbering, rank_times, rank_quotient, IsRanks, ranks_of}
+use Rattle.mono_rank.specs.Laws.{IsDegreeOrder, Numbering, IsNumbering, numbering, rank_times, rank_quotient, ranks_of}
+use Rattle.rank_algebra.specs.Ranks.{IsRanks}
 use Rattle.mono_rank.proofs.Ranks.{rank_low, rank_above, rank_small}
 use Rattle.mono_rank.proofs.ByRank.{mono_of_rank-is, rank-mono_of_rank}
 use Rattle.mono_rank.proofs.Products.{IsWithin, times_within, times_past, within_of_rank, times_small, times_comm, times_assoc, some_monomials, times_unit, times_le, times_grows}

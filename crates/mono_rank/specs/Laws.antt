@@ -1,8 +1,9 @@
--- Monomials of degree at most d by rank, with their products, for any order that goes by degree first: the laws that
--- computing with rows of residues rests on. Ours.
+-- Numberings of the monomials of degree at most d by any order that goes by degree first, with products, quotients and
+-- cofactors by number: these are ranks that compute. Ours.
 use Rattle.std.specs.Prelude.{◌≡◌, ℕ, ◌+◌, ◌*◌, ◌%◌, ◌<◌, ◌≤◌, ◌⊎◌, ◌&&◌, List, length, Option, Some, None, cond, ltb, leb}
 use Rattle.local_order.specs.Mono.{degree, mono_times, mono_quotient, divides}
 use Rattle.local_order.specs.Count.{monomial_count}
+use Rattle.rank_algebra.specs.Ranks.{Ranks}
 use Rattle.mono_rank.specs.Rank.{rank_of, mono_of_rank}
 
 -- a total order of the monomials in n variables that goes by degree first, the lesser degree being above, and that products keep
@@ -44,33 +45,6 @@ rank_quotient O r a = cond (ltb r O.count && (ltb a O.count && divides (O.mono a
 -- the rank of what the monomial of rank a lacks to its least common multiple with that of rank b
 abbrev pub rank_cofactor : Numbering → ℕ → ℕ → ℕ
 rank_cofactor O a b = cond (ltb a O.count && ltb b O.count) (O.rank (mono_quotient (O.mono b) (O.mono a))) O.count
-
--- Residues modulo p and monomials by rank: n is the number of monomials, a product beyond degree d is n or more,
--- `quotient r a` is r / a where a divides r, `cofactor a b` is the least common multiple of a and b divided by a, and `inverse_of c` an inverse of c.
-pub record Ranks : Type 0 where
-  pub p : ℕ
-  pub n : ℕ
-  pub times : ℕ → ℕ → ℕ
-  pub quotient : ℕ → ℕ → Option ℕ
-  pub cofactor : ℕ → ℕ → ℕ
-  pub degree : ℕ → ℕ
-  pub inverse_of : ℕ → ℕ
-
--- the laws that all computing by rank uses
-pub record IsRanks (R : Ranks) : Type 0 where
-  pub prime_pos : 0 < R.p
-  pub some : 0 < R.n
-  pub inverse : (c : ℕ) → (c % R.p ≡ 0 → ⊥) → (R.inverse_of c * c) % R.p ≡ 1 % R.p
-  pub comm : (a b : ℕ) → R.times a b ≡ R.times b a
-  pub assoc : (a b c : ℕ) → R.times (R.times a b) c ≡ R.times a (R.times b c)
-  pub unit : (a : ℕ) → a < R.n → R.times 0 a ≡ a
-  pub le : (a b : ℕ) → R.times a b < R.n → b ≤ R.times a b
-  pub grows : (a b c : ℕ) → b < c → R.times a c < R.n → R.times a b < R.times a c
-  pub quotient_times : (r a s : ℕ) → R.quotient r a ≡ Some s → R.times a s ≡ r
-  pub times_quotient : (a s : ℕ) → R.times a s < R.n → R.quotient (R.times a s) a ≡ Some s
-  pub lcm : (a b : ℕ) → R.times a (R.cofactor a b) ≡ R.times b (R.cofactor b a)
-  pub least : (a b x y : ℕ) → R.times a x < R.n → R.times a x ≡ R.times b y
-      → (c : ℕ) × (R.times c (R.cofactor a b) ≡ x) × (R.times c (R.cofactor b a) ≡ y)
 
 -- the ranks of a numbering, with residues modulo p and their inverses
 abbrev pub ranks_of : ℕ → (ℕ → ℕ) → ℕ → Numbering → Ranks

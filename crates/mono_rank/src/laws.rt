@@ -5,7 +5,8 @@ ghost use Rattle.local_order.specs.Mono.{degree, mono_times, Divides};
 ghost use Rattle.local_order.specs.Order.{IsAbove};
 ghost use Rattle.local_order.specs.Count.{monomial_count};
 ghost use Rattle.mono_rank.specs.Rank.{rank_of, HasRank, fewer, mono_at, ListsMonomials};
-ghost use Rattle.mono_rank.specs.Laws.{IsDegreeOrder, Numbering, IsNumbering, numbering, IsRanks, ranks_of};
+ghost use Rattle.mono_rank.specs.Laws.{IsDegreeOrder, Numbering, IsNumbering, numbering, ranks_of};
+ghost use Rattle.rank_algebra.specs.Ranks.{IsRanks};
 
 /// Ranks turn the order round: the greater monomial has the lesser rank.
 pub fn rank_turns_the_order()

@@ -1,9 +1,10 @@
 //! Tables of ranks.
 
-ghost use Rattle.std.specs.Prelude.{◌≡◌, ℕ, List, ◌<◌, ◌≤◌, ◌↔◌, length, IsTrue, MatchOption, MatchResult};
+ghost use Rattle.std.specs.Prelude.{◌≡◌, ℕ, List, ◌+◌, ◌<◌, ◌≤◌, ◌↔◌, length, IsTrue, MatchOption, MatchResult};
 ghost use Rattle.local_order.specs.Mono.{degree, mono_times, Divides};
 ghost use Rattle.local_order.specs.Count.{monomial_count};
 ghost use Rattle.mono_rank.specs.Rank.{HasRank, fewer};
+ghost use Rattle.mono_rank.specs.Next.{run_of};
 ghost use Rattle.mono_rank.specs.Stored.{HasLimits};
 ghost use Rattle.mono_rank.specs.Table.{IsRefusal};
 
@@ -127,6 +128,23 @@ impl RankTable {
         self.rank(&product)
     }
 
+    /// How many ranks from this one on form a run: their monomials come from the first by trading powers of the first variable for
+    /// powers of the second. They have one degree, and their products with any monomial have ranks that follow each other too, so
+    /// the rank of the first product tells those of the others. It costs a look-up.
+    pub fn run_from(&self, rank: u32) -> u32
+        requires { rank < monomial_count self.now.n self.now.d }
+        ensures value { (m : List ℕ) → HasRank self.now.n self.now.d m rank → result ≡ run_of m }
+        ensures some { 1 ≤ result }
+        ensures within { rank + result ≤ monomial_count self.now.n self.now.d }
+        ensures degrees { (y z : List ℕ) (k : ℕ) → k < result → HasRank self.now.n self.now.d y rank
+            → HasRank self.now.n self.now.d z (rank + k) → degree z ≡ degree y }
+        ensures products { (x y z : List ℕ) (a k r : ℕ) → k < result → HasRank self.now.n self.now.d x a
+            → HasRank self.now.n self.now.d y rank → HasRank self.now.n self.now.d z (rank + k)
+            → HasRank self.now.n self.now.d (mono_times x y) r → HasRank self.now.n self.now.d (mono_times x z) (r + k) }
+    {
+        run_length(&self.monos[rank as usize])
+    }
+
     /// Whether the monomial of rank `a` divides that of rank `b`.
     pub fn divides_rank(&self, a: u32, b: u32) -> bool
         requires first { a < monomial_count self.now.n self.now.d }
@@ -144,5 +162,17 @@ impl RankTable {
         ensures small { result < monomial_count self.now.n self.now.d }
     {
         self.counts[(8 * d + self.n - 1) as usize] as u32
+    }
+}
+
+/// How many monomials come from this one by trading powers of the first variable for powers of the second, itself with them.
+fn run_length(m: &Mono) -> u32
+    requires { 1 ≤ length m.now }
+    ensures { result ≡ run_of m.now }
+{
+    if m.n() == 1 {
+        1
+    } else {
+        u32::from(m.exp(0)) + 1
     }
 }

@@ -1,0 +1,9 @@
+pub mod Searches
+pub mod Residues
+pub mod Linear
+pub mod Echelon
+pub mod First
+pub mod Division
+pub mod Units
+pub mod Corner
+pub mod Remainder

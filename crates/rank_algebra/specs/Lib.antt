@@ -1,0 +1,5 @@
+pub mod Ranks
+pub mod Vector
+pub mod Combination
+pub mod Division
+pub mod Ideal
