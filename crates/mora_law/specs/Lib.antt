@@ -1,0 +1,16 @@
+pub mod Ring
+pub mod Lead
+pub mod Step
+pub mod Run
+pub mod Alike
+pub mod Entries
+pub mod Start
+pub mod SPolynomial
+pub mod Legal
+pub mod Tickets
+pub mod Items
+pub mod Skip
+pub mod Settled
+pub mod UnitLaw
+pub mod Basis
+pub mod Examples
