@@ -1,5 +1,8 @@
 pub mod Residues
 pub mod Multiples
+mod Runs
 pub mod Polynomials
+pub mod Store
+pub mod TermRows
 mod Writing
-mod Cuts
+pub mod Cuts

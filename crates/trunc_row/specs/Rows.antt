@@ -1,8 +1,9 @@
 -- Rows of residues modulo p, one for each monomial of degree at most d, by rank. What the operations do, by rank. Ours.
-use Rattle.std.specs.Prelude.{◌≡◌, ◌≢◌, ℕ, ◌+◌, ◌*◌, ◌-◌, ◌%◌, ◌<◌, ◌≤◌, List, length, All, slice_index}
+use Rattle.std.specs.Prelude.{◌≡◌, ◌≢◌, ℕ, ◌+◌, ◌*◌, ◌-◌, ◌%◌, ◌<◌, ◌≤◌, List, [], ◌∷◌, length, All, slice_index, slice_get, Some, cond, eqb}
 use Rattle.local_order.specs.Mono.{degree, mono_times, Divides}
 use Rattle.local_order.specs.Count.{monomial_count}
 use Rattle.mono_rank.specs.Rank.{HasRank}
+use Rattle.entry_code.specs.declared.term.Term.{Term}
 
 -- r has so many places, and a residue modulo p at each
 pub record IsRow (p places : ℕ) (r : List ℕ) : Type 0 where
@@ -44,9 +45,31 @@ pub record Subtracts (p c : ℕ) (g r s : List ℕ) : Type 0 where
   pub row : IsRow p (length r) s
   pub value : (k : ℕ) → slice_index s k ≡ (slice_index r k + (p - c) * slice_index g k) % p
 
+-- s is r less c times `count` residues of g, from place `from` on, at as many places from `to` on
+pub record SubtractsRun (p c from to count : ℕ) (g r s : List ℕ) : Type 0 where
+  pub row : IsRow p (length r) s
+  pub inside : (k : ℕ) → k < count → slice_index s (to + k) ≡ (slice_index r (to + k) + (p - c) * slice_index g (from + k)) % p
+  pub before : (j : ℕ) → j < to → slice_index s j ≡ slice_index r j
+  pub behind : (j : ℕ) → to + count ≤ j → slice_index s j ≡ slice_index r j
+
 -- s is r less c times the multiple of g by the monomial of rank a; what the multiple has beyond degree d is dropped
 pub record SubtractsMultiple (p n d c a : ℕ) (g r s : List ℕ) : Type 0 where
   pub row : IsRow p (monomial_count n d) s
   pub multiples : (x y : List ℕ) (j k : ℕ) → HasRank n d x a → HasRank n d y j → HasRank n d (mono_times x y) k
       → slice_index s k ≡ (slice_index r k + (p - c) * slice_index g j) % p
   pub others : (x m : List ℕ) (k : ℕ) → HasRank n d x a → HasRank n d m k → (Divides x m → ⊥) → slice_index s k ≡ slice_index r k
+
+-- the coefficient that a list of terms has at rank r: that of the first term of this rank
+abbrev pub term_coef : List Term → ℕ → ℕ
+term_coef [] r = 0
+term_coef (t ∷ ts) r = cond (eqb t.rank r) t.coef (term_coef ts r)
+
+-- the ranks of the terms rise and are below `places`
+pub record HasRisingRanks (places : ℕ) (ts : List Term) : Type 0 where
+  pub rising : (i j : ℕ) (t u : Term) → i < j → slice_get ts i ≡ Some t → slice_get ts j ≡ Some u → t.rank < u.rank
+  pub low : All (λ t. t.rank < places) ts
+
+-- r has the coefficients of the terms at their ranks, and 0 elsewhere
+pub record IsRowOfTerms (places : ℕ) (ts : List Term) (r : List ℕ) : Type 0 where
+  pub full : length r ≡ places
+  pub coefs : (k : ℕ) → slice_index r k ≡ term_coef ts k

@@ -1,11 +1,12 @@
 //! The loops over the residues of rows.
 
-ghost use Rattle.std.specs.Prelude.{◌≡◌, ℕ, ◌<◌, length};
+ghost use Rattle.std.specs.Prelude.{◌≡◌, ℕ, ◌+◌, ◌<◌, ◌≤◌, length};
 ghost use Rattle.local_order.specs.Count.{monomial_count};
 ghost use Rattle.sparse_poly.specs.Poly.{IsCanonical};
-ghost use Rattle.trunc_row.specs.Rows.{IsRow, IsScaled, Subtracts, SubtractsMultiple};
+ghost use Rattle.trunc_row.specs.Rows.{IsRow, IsScaled, Subtracts, SubtractsRun, SubtractsMultiple, HasRisingRanks, IsRowOfTerms};
 ghost use Rattle.trunc_row.specs.Polynomials.{IsRowOf, IsWritten};
 
+use entry_code::Terms;
 use mono_rank::RankTable;
 use prime_field::Field;
 use sparse_poly::Poly;
@@ -25,6 +26,18 @@ pub(crate) fn write(row: &mut [u32], table: &RankTable, poly: &Poly)
     }
 }
 
+/// Writes the coefficients of the terms at their ranks, and 0 elsewhere.
+pub(crate) fn write_terms(row: &mut [u32], terms: &Terms)
+    requires { HasRisingRanks (length row.old) terms.now.list }
+    ensures { IsRowOfTerms (length row.old) terms.now.list row.new }
+{
+    row.fill(0);
+    for i in 0..terms.len() {
+        let term = terms.get(i);
+        row[term.rank as usize] = term.coef;
+    }
+}
+
 /// Subtracts `c` times another row.
 pub(crate) fn subtract(field: &Field, row: &mut [u32], c: u32, other: &[u32])
     requires own { IsRow field.now (length other.now) row.old }
@@ -40,7 +53,35 @@ pub(crate) fn subtract(field: &Field, row: &mut [u32], c: u32, other: &[u32])
     }
 }
 
+/// Subtracts `c` times `count` residues of another row, from place `from` on, at as many places from `to` on.
+fn subtract_run(
+    row: &mut [u32],
+    field: &Field,
+    c: u32,
+    other: &[u32],
+    from: usize,
+    to: usize,
+    count: usize,
+)
+    requires own { IsRow field.now (length other.now) row.old }
+    requires other { IsRow field.now (length other.now) other.now }
+    requires residue { c < field.now }
+    requires from { from + count ≤ length other.now }
+    requires to { to + count ≤ length other.now }
+    ensures { SubtractsRun field.now c from to count other.now row.old row.new }
+{
+    let factor = field.neg(c);
+    for k in 0..count {
+        let coef = other[from + k];
+        if coef != 0 {
+            row[to + k] = field.add(row[to + k], field.mul(factor, coef));
+        }
+    }
+}
+
 /// Subtracts `c` times the multiple of another row by the monomial of rank `shift`. By the monomial 1, [`subtract`] costs less.
+///
+/// Ranks come in runs, whose products follow each other as they do, so a product is looked up once a run.
 pub(crate) fn subtract_shifted(
     row: &mut [u32],
     table: &RankTable,
@@ -55,14 +96,17 @@ pub(crate) fn subtract_shifted(
     requires shift { shift < monomial_count table.now.n table.now.d }
     ensures { SubtractsMultiple field.now table.now.n table.now.d c shift other.now row.old row.new }
 {
-    let factor = field.neg(c);
-    for rank in 0..table.count() {
-        let coef = other[rank as usize];
-        if coef != 0 {
-            if let Some(product) = table.times_rank(shift, rank) {
-                let place = product as usize;
-                row[place] = field.add(row[place], field.mul(factor, coef));
-            }
+    let count = table.count();
+    let mut rank = 0;
+    while rank < count {
+        if let Some(product) = table.times_rank(shift, rank) {
+            let run = table.run_from(rank);
+            let (from, to) = (rank as usize, product as usize);
+            subtract_run(row, field, c, other, from, to, run as usize);
+            rank += run;
+        } else {
+            // later monomials have no lesser degree, so their products are beyond the table's too
+            rank = count;
         }
     }
 }
