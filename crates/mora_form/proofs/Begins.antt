@@ -1,0 +1,121 @@
+-- The row from which a run begins is the start of its item.
+-- A generator is written into a row; a pair is 0 less -1 times the one multiple, less the other.
+use Rattle.std.proofs.Common.{◌≡◌, ℕ, zero, suc, ◌+◌, ◌-◌, ◌*◌, ◌%◌, ◌<◌, ◌≤◌, List, [], ◌∷◌, length, map, get_or, replicate, Some, slice_get, refl, ap, ap₂, sym, ◌∙◌, subst, arith}
+use Rattle.std.proofs.lemmas.Option.{slice_get_within, get_or_from_slice_get}
+use Rattle.prime_field.specs.Prime.{InTable}
+use Rattle.prime_field.proofs.Primality.{IsPrime-table}
+use Rattle.local_order.specs.Count.{monomial_count}
+use Rattle.mono_rank.specs.Rank.{mono_of_rank}
+use Rattle.mono_rank.specs.Laws.{numbering, rank_cofactor}
+use Rattle.mono_rank.proofs.ByRank.{rank-mono_of_rank}
+use Rattle.sparse_poly.specs.Poly.{Poly, Polynomial, in_variables, IsCanonical, total}
+use Rattle.sparse_poly.specs.Ideal.{Problem, IsProblem}
+use Rattle.trunc_row.specs.Rows.{SubtractsMultiple}
+use Rattle.trunc_row.specs.Polynomials.{IsRowOf}
+use Rattle.rank_algebra.specs.Vector.{Same, shift, less, Agree}
+use Rattle.rank_algebra.specs.Division.{pair}
+use Rattle.mora_law.specs.Ring.{numbering_of, ranks_of_problem, vector_of, generators_of}
+use Rattle.rank_algebra.proofs.Residues.{same_refl, same_of, same_trans, same_add, same_minus_minus}
+use Rattle.rank_algebra.proofs.Linear.{agree_trans}
+use Rattle.mora_law.proofs.Ring.{ranks_p, mono_is}
+use Rattle.entry_code.specs.declared.item.Item.TheVariants.{Pair}
+use Rattle.ecart.specs.declared.summary.Summary.{Summary}
+use Rattle.ecart.specs.Choice.{summary_at}
+use Rattle.mora_form.specs.Reducers.{row_at}
+use Rattle.mora_form.specs.State.{ring, vector_of_row}
+use Rattle.mora_form.specs.Begin.{basis_in}
+use Rattle.mora_law.specs.Start.{start_of}
+use Rattle.mora_form.proofs.Vectors.{ring_of_problem, ring_p, ring_count, ring_cofactor, subtract_vector}
+use Rattle.mora_law.proofs.Terms.{same_mod}
+
+-- ---- generators
+-- what a list of polynomials lends
+pub lent : (n : ℕ) (gens : List Poly) (g : ℕ) (f : Polynomial) → slice_get (map (in_variables n) gens) g ≡ Some f → (g < length gens) × (f ≡ in_variables n (get_or gens g []))
+lent n [] g f e = absurd (cc e)
+lent n (h ∷ gens) zero f e = (omega arith, let q : in_variables n h ≡ f = cc e in sym q)
+lent n (h ∷ gens) (suc g) f e = let w = lent n gens g f e in (omega (arith, w.0), w.1)
+
+-- f is generator g of the problem, in canonical form
+pub record IsGenerator (P : Problem) (n g : ℕ) (f : Polynomial) : Type 0 where
+  pub in_ring : f.n ≡ n
+  pub canonical : IsCanonical P.p n f.terms
+  pub is : f.terms ≡ get_or P.gens g []
+  pub positive : 0 < P.p
+
+-- a member of the list of generators that a problem lends is one of its generators
+pub generator_is : (P : Problem) (n g : ℕ) (gens : List Polynomial) (f : Polynomial) → IsProblem P → P.n ≡ n → gens ≡ map (in_variables P.n) P.gens → slice_get gens g ≡ Some f → IsGenerator P n g f
+generator_is P n g gens f h e k l =
+    let w = lent P.n P.gens g f (ap (λ s. slice_get s g) (sym k) ∙ l) in
+    let prime = IsPrime-table P.p h.prime in
+    record {
+      in_ring = ap (λ x. x.n) w.1 ∙ e;
+      canonical = subst (λ m. IsCanonical P.p m f.terms) e (subst (IsCanonical P.p P.n) (ap (λ x. x.terms) (sym w.1)) (h.canonical g [] w.0));
+      is = ap (λ x. x.terms) w.1;
+      positive = omega (arith, prime.two_up);
+    }
+
+-- the row of a generator is its vector
+pub generator_row : (P : Problem) (n d g : ℕ) (f : Poly) (r : List ℕ) → 1 ≤ n → P.n ≡ n → P.d ≡ d → f ≡ get_or P.gens g [] → IsRowOf P.p n d f r
+    → Agree (ranks_of_problem P) (monomial_count n d) (vector_of_row r) (vector_of P (get_or P.gens g []))
+generator_row P n d g f r some e k q h = record {
+  at = λ x l. subst (λ p. Same p (get_or r x 0) (total (get_or P.gens g []) ((numbering_of P).mono x))) (sym (ranks_p P))
+      (same_trans (same_of P.p _ _ (h.coefs (mono_of_rank n d x) x (rank-mono_of_rank n d x some l))) (same_trans (same_mod P.p (total f (mono_of_rank n d x)))
+      (same_of P.p _ _ (ap₂ total q (ap₂ (λ a b. mono_of_rank a b x) (sym e) (sym k) ∙ sym (mono_is P x))))));
+}
+
+-- ---- pairs
+-- 0 less -1 times a multiple of f, less a multiple of g, is the multiple of f less that of g
+pub pair_row : (p n d : ℕ) → InTable p → 1 ≤ n → (c a b : ℕ) (f g none first new : List ℕ) → c ≡ (p - 1) % p → a < monomial_count n d → b < monomial_count n d → ((k : ℕ) → get_or none k 0 ≡ 0)
+    → SubtractsMultiple p n d c a f none first → SubtractsMultiple p n d 1 b g first new
+    → Agree (ring p n d) (ring p n d).n (vector_of_row new) (less (ring p n d) 1 (shift (ring p n d) b (vector_of_row g)) (shift (ring p n d) a (vector_of_row f)))
+pair_row p n d t some c a b f g none first new ce la lb z h k =
+    agree_trans (subtract_vector p n d t some 1 b g first new (omega (arith, two)) lb k)
+    (record { at = λ x l. same_add (same_trans ((subtract_vector p n d t some c a f none first c_small la h).at x l) (start x)) (same_refl (ring p n d).p _) })
+  where
+    two : 2 ≤ p
+    two = let prime = IsPrime-table p t in prime.two_up
+
+    c_is : c ≡ p - 1
+    c_is = ce ∙ (let l : 2 ≤ p = (let prime = IsPrime-table p t in prime.two_up) in less_mod p l)
+      where
+        less_mod : (p : ℕ) → 2 ≤ p → (p - 1) % p ≡ p - 1
+        less_mod p l = grind arith
+
+    c_small : c < p
+    c_small = omega (arith, c_is, two)
+
+    start : (x : ℕ) → Same (ring p n d).p (get_or none x 0 + ((ring p n d).p - 1) * c * shift (ring p n d) a (vector_of_row f) x) (shift (ring p n d) a (vector_of_row f) x)
+    start x =
+        same_trans (same_of (ring p n d).p _ _ (turn (get_or none x 0) ((ring p n d).p - 1) c (shift (ring p n d) a (vector_of_row f) x) (z x) (c_is ∙ ap (λ q. q - 1) (sym (ring_p p n d)))))
+        (same_minus_minus (ring p n d).p (shift (ring p n d) a (vector_of_row f) x) (omega (arith, ring_p p n d, two)))
+      where
+        turn : (y m c s : ℕ) → y ≡ 0 → c ≡ m → y + m * c * s ≡ m * (m * s)
+        turn y m c s e f = ap₂ (λ u v. u + m * v * s) e f ∙ omega arith
+
+-- the difference of the multiples by the two cofactors is the S-pair from which the run of a pair begins
+pub pair_is : (P : Problem) (p n d : ℕ) → P.p ≡ p → P.n ≡ n → P.d ≡ d → (rows : List (List ℕ)) (summaries : List Summary) (i j a b : ℕ) (f g new : List ℕ) → f ≡ row_at rows i → g ≡ row_at rows j
+    → rank_cofactor (numbering n d) (summary_at summaries i).lead (summary_at summaries j).lead ≡ a → rank_cofactor (numbering n d) (summary_at summaries j).lead (summary_at summaries i).lead ≡ b
+    → Agree (ring p n d) (ring p n d).n (vector_of_row new) (less (ring p n d) 1 (shift (ring p n d) b (vector_of_row g)) (shift (ring p n d) a (vector_of_row f)))
+    → Agree (ranks_of_problem P) (monomial_count n d) (vector_of_row new) (start_of (ranks_of_problem P) (generators_of P) (basis_in rows summaries) (Pair i j))
+pair_is P p n d e k l rows summaries i j a b f g new fe ge ae be h =
+    subst (λ R. Agree R (monomial_count n d) (vector_of_row new) (pair R (basis_in rows summaries) i j)) (sym same)
+    (subst (λ w. Agree (ring p n d) w (vector_of_row new) (pair (ring p n d) (basis_in rows summaries) i j)) (ring_count p n d)
+    (subst (λ x. Agree (ring p n d) (ring p n d).n (vector_of_row new) (less (ring p n d) 1 (shift (ring p n d) x (vector_of_row (row_at rows j))) (shift (ring p n d) ((ring p n d).cofactor (summary_at summaries i).lead (summary_at summaries j).lead) (vector_of_row (row_at rows i)))))
+    (sym be ∙ sym (ring_cofactor p n d _ _))
+    (subst (λ x. Agree (ring p n d) (ring p n d).n (vector_of_row new) (less (ring p n d) 1 (shift (ring p n d) b (vector_of_row (row_at rows j))) (shift (ring p n d) x (vector_of_row (row_at rows i)))))
+    (sym ae ∙ sym (ring_cofactor p n d _ _))
+    (subst (λ x. Agree (ring p n d) (ring p n d).n (vector_of_row new) (less (ring p n d) 1 (shift (ring p n d) b (vector_of_row x)) (shift (ring p n d) a (vector_of_row (row_at rows i))))) ge
+    (subst (λ x. Agree (ring p n d) (ring p n d).n (vector_of_row new) (less (ring p n d) 1 (shift (ring p n d) b (vector_of_row g)) (shift (ring p n d) a (vector_of_row x)))) fe h)))))
+  where
+    same : ranks_of_problem P ≡ ring p n d
+    same = ring_of_problem P ∙ ap (λ x. ring x P.n P.d) e ∙ ap₂ (ring p) k l
+
+-- the row at a place
+pub got_row : (rows : List (List ℕ)) (i : ℕ) (r : List ℕ) → slice_get rows i ≡ Some r → (i < length rows) × (r ≡ row_at rows i)
+got_row rows i r e = (slice_get_within rows i r e, sym (get_or_from_slice_get rows i r [] e))
+
+-- a list of zeros has 0 at each place
+pub zeros : (n k : ℕ) → (let z : ℕ = 0 in get_or (replicate n z) k z ≡ z)
+zeros zero k = refl
+zeros (suc n) zero = refl
+zeros (suc n) (suc k) = zeros n k

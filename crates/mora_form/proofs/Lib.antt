@@ -1,0 +1,12 @@
+pub mod Learning
+pub mod Quotients
+pub mod Readings
+pub mod Vectors
+pub mod Drafts
+pub mod Summaries
+pub mod Subtractions
+pub mod Reducing
+pub mod Begins
+pub mod Runs
+pub mod Opened
+pub mod Stepping

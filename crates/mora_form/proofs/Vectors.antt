@@ -1,0 +1,176 @@
+-- Rows as vectors over the ring by rank: leads, and the subtraction of multiples.
+-- The ring stays folded: what it consists of is told once, field by field, and everything else follows by its laws.
+use Rattle.std.proofs.Common.{◌≡◌, ℕ, zero, suc, ◌+◌, ◌-◌, ◌*◌, ◌%◌, ◌<◌, ◌≤◌, List, [], length, get_or, Option, Some, None, refl, ap, sym, ◌∙◌, subst, arith}
+use Rattle.std.proofs.Math.Nat
+use Rattle.prime_field.specs.Prime.{InTable}
+use Rattle.prime_field.specs.Inverse.{inverse}
+use Rattle.prime_field.proofs.Primality.{IsPrime-table}
+use Rattle.local_order.specs.Mono.{degree, mono_times, mono_quotient}
+use Rattle.local_order.specs.Count.{monomial_count}
+use Rattle.local_order.proofs.Order.{mono_times-mono_quotient}
+use Rattle.local_order.proofs.Division.{divides_iff}
+use Rattle.mono_rank.specs.Rank.{HasRank, mono_of_rank}
+use Rattle.mono_rank.specs.Laws.{numbering, rank_quotient, rank_cofactor}
+use Rattle.rank_algebra.specs.Ranks.{Ranks, IsRanks}
+use Rattle.mono_rank.proofs.ByRank.{rank-mono_of_rank}
+use Rattle.mono_rank.proofs.Quotients.{IsOver, over_is}
+use Rattle.mono_rank.proofs.Numbers.{quotient_of_ranks}
+use Rattle.sparse_poly.specs.Ideal.{Problem}
+use Rattle.trunc_row.specs.Rows.{IsRow, IsZeroRow, BeginsAt, SubtractsMultiple}
+use Rattle.trunc_row.proofs.Residues.{row_small}
+use Rattle.rank_algebra.specs.Vector.{Same, nothing, coef_at, shift, less, Agree}
+use Rattle.mora_law.specs.Ring.{numbering_of, ranks_of_problem}
+use Rattle.rank_algebra.specs.Ideal.{IsLead}
+use Rattle.rank_algebra.proofs.Residues.{same_refl, same_of, same_trans, same_add, same_mul}
+use Rattle.rank_algebra.proofs.Linear.{agree_of}
+use Rattle.mora_law.proofs.Ring.{ranks_are}
+use Rattle.mora_law.specs.Lead.{lead}
+use Rattle.mora_law.proofs.Choice.{lead_some, lead_is}
+use Rattle.mora_law.proofs.Terms.{same_mod}
+use Rattle.mora_form.specs.State.{ring, vector_of_row}
+use Rattle.mora_form.proofs.Quotients.{quotient_fits}
+
+-- ---- the ring
+-- it is that of each problem over the field, in these variables and modulo this degree
+pub ring_of_problem : (P : Problem) → ranks_of_problem P ≡ ring P.p P.n P.d
+unfolding ranks_of_problem numbering_of
+ring_of_problem P = refl
+
+-- its field has p members
+pub ring_p : (p n d : ℕ) → (ring p n d).p ≡ p
+unfolding ranks_of_problem numbering_of
+ring_p p n d = refl
+
+-- it has a rank for each monomial of degree at most d
+pub ring_count : (p n d : ℕ) → (ring p n d).n ≡ monomial_count n d
+unfolding ranks_of_problem numbering_of
+ring_count p n d = refl
+
+-- its quotients are those of monomials by rank
+pub ring_quotient : (p n d r a : ℕ) → (ring p n d).quotient r a ≡ rank_quotient (numbering n d) r a
+unfolding ranks_of_problem numbering_of
+ring_quotient p n d r a = refl
+
+-- and so are its cofactors
+pub ring_cofactor : (p n d a b : ℕ) → (ring p n d).cofactor a b ≡ rank_cofactor (numbering n d) a b
+unfolding ranks_of_problem numbering_of
+ring_cofactor p n d a b = refl
+
+-- its degrees are those of monomials
+pub ring_degree : (p n d r : ℕ) → (ring p n d).degree r ≡ degree (mono_of_rank n d r)
+unfolding ranks_of_problem numbering_of
+ring_degree p n d r = refl
+
+-- its inverses are those of residues
+pub ring_inverse : (p n d c : ℕ) → (ring p n d).inverse_of c ≡ inverse p (c % p)
+unfolding ranks_of_problem numbering_of
+ring_inverse p n d c = refl
+
+-- it has the laws of computing by rank
+pub ring_laws : (p n d : ℕ) → InTable p → 1 ≤ n → IsRanks (ring p n d)
+ring_laws p n d t some = ranks_are (record { p = p; n = n; d = d; gens = [] }) (record { prime = IsPrime-table p t; some = some; in_ring = λ k x l. absurd (omega (arith, l)) })
+
+-- ---- residues
+-- numbers below p that are one residue are equal
+pub residue_same : (p a b : ℕ) → a < p → b < p → Same p a b → a ≡ b
+residue_same p a b l m h = sym (Nat.mod-eq_of_lt l) ∙ h.eq ∙ Nat.mod-eq_of_lt m
+
+-- p - c is the factor p - 1 times c
+minus : (p c : ℕ) → c < p → Same p (p - c) ((p - 1) * c)
+minus p zero l = record { eq = ap (λ x. x % p) (let e : p - 0 ≡ p = omega arith in e) ∙ Nat.mod_self p ∙ sym (Nat.zero-mod p) ∙ ap (λ x. x % p) (let e : 0 ≡ (p - 1) * 0 = omega arith in e) }
+minus p (suc c) l = record { eq = sym (ap (λ x. x % p) (go p l) ∙ Nat.add-mul-mod_self_right (p - suc c) c p) }
+  where
+    go : (p : ℕ) → suc c < p → (p - 1) * suc c ≡ p - suc c + c * p
+    go zero l = absurd (omega (arith, l))
+    go (suc q) l = ap (λ x. x * suc c) (let e : suc q - 1 ≡ q = omega arith in e) ∙ more q (suc q - suc c) (omega (arith, l))
+      where
+        more : (q m : ℕ) → m + c ≡ q → q * suc c ≡ m + c * suc q
+        more q m e = omega (arith, ap (λ x. x * suc c) (sym e), ap (λ x. c * x) (sym e))
+
+-- ---- leads
+module _ (p n d : ℕ) (t : InTable p) (some : 1 ≤ n) where
+  -- the ring
+  abbrev R : Ranks
+  R = ring p n d
+
+  -- the number of monomials
+  abbrev N : ℕ
+  N = monomial_count n d
+
+  -- its laws
+  L : IsRanks (ring p n d)
+  L = ring_laws p n d t some
+
+  -- a residue of a row that is 0 modulo p is 0
+  none_zero : (r : List ℕ) (k : ℕ) → IsRow p (monomial_count n d) r → k < monomial_count n d → Same (ring p n d).p (get_or r k 0) 0 → get_or r k 0 ≡ 0
+  none_zero r k w l h =
+      let small : get_or r k 0 < p = row_small p (monomial_count n d) r k w l in
+      residue_same p (get_or r k 0) 0 small (omega (arith, small)) (subst (λ q. Same q (get_or r k 0) 0) (ring_p p n d) h)
+
+  -- where a row begins its vector has its lead
+  pub begins_lead : (r : List ℕ) (k : ℕ) → IsRow p (monomial_count n d) r → BeginsAt r k → IsLead (ring p n d) (vector_of_row r) k
+  begins_lead r k w b =
+      let l : k < monomial_count n d = omega (arith, b.within, w.full) in
+      record {
+        small = omega (arith, l, ring_count p n d);
+        low = agree_of (ring p n d) k (vector_of_row r) nothing b.before;
+        some = λ h. b.some (none_zero r k w l h);
+      }
+
+  -- the lead of the vector is the rank where the row begins
+  pub lead_of_row : (r : List ℕ) (k : ℕ) → IsRow p (monomial_count n d) r → BeginsAt r k → lead (ring p n d) (vector_of_row r) ≡ Some k
+  lead_of_row r k w b = lead_is (ring p n d) (vector_of_row r) k (begins_lead r k w b)
+
+  -- the vector of a row of zeros has no lead
+  pub lead_of_zero : (r : List ℕ) → IsZeroRow r → lead (ring p n d) (vector_of_row r) ≡ None
+  lead_of_zero r z = go (lead (ring p n d) (vector_of_row r)) refl
+    where
+      go : (o : Option ℕ) → lead (ring p n d) (vector_of_row r) ≡ o → lead (ring p n d) (vector_of_row r) ≡ None
+      go None e = e
+      go (Some k) e = absurd ((lead_some (ring p n d) (vector_of_row r) k e).some (same_of (ring p n d).p (get_or r k 0) 0 (z k)))
+
+  -- ---- multiples
+  -- the row less a multiple of another is the vector less the multiple of the other's
+  pub subtract_vector : (c a : ℕ) (g r s : List ℕ) → c < p → a < monomial_count n d → SubtractsMultiple p n d c a g r s
+      → Agree (ring p n d) (ring p n d).n (vector_of_row s) (less (ring p n d) c (shift (ring p n d) a (vector_of_row g)) (vector_of_row r))
+  subtract_vector c a g r s lc la h = record {
+    at = λ k l. subst (λ q. Same q (get_or s k 0) (get_or r k 0 + (q - 1) * c * shift (ring p n d) a (vector_of_row g) k)) (sym (ring_p p n d))
+        (at k (omega (arith, l, ring_count p n d)) (rank_quotient (numbering n d) k a) refl);
+  }
+    where
+      hx : HasRank n d (mono_of_rank n d a) a
+      hx = rank-mono_of_rank n d a some la
+
+      at : (k : ℕ) → k < monomial_count n d → (o : Option ℕ) → rank_quotient (numbering n d) k a ≡ o
+          → Same p (get_or s k 0) (get_or r k 0 + (p - 1) * c * shift (ring p n d) a (vector_of_row g) k)
+      at k l None e = same_of p _ _ (h.others (mono_of_rank n d a) (mono_of_rank n d k) k hx (rank-mono_of_rank n d k some l)
+          (λ v. absurd (cc (sym e, ((quotient_of_ranks n d (mono_of_rank n d a) (mono_of_rank n d k) a k hx (rank-mono_of_rank n d k some l)).0 v).1)))
+          ∙ none (get_or r k 0) ((p - 1) * c) (shift (ring p n d) a (vector_of_row g) k) (ap (coef_at (vector_of_row g)) (ring_quotient p n d k a ∙ e)))
+        where
+          none : (x m y : ℕ) → y ≡ 0 → x ≡ x + m * y
+          none x m y e = omega (arith, ap (λ z. m * z) e)
+      at k l (Some q) e =
+          same_trans (same_of p _ _ (h.multiples (mono_of_rank n d a) quotient q k hx hq hk))
+          (same_trans (same_mod p (get_or r k 0 + (p - c) * get_or g q 0))
+          (same_add (same_refl p (get_or r k 0)) (same_mul (minus p c lc) (same_of p _ _ (sym (ap (coef_at (vector_of_row g)) (ring_quotient p n d k a ∙ e)))))))
+        where
+          over : IsOver (numbering n d) k a q
+          over = over_is (numbering n d) k a q e
+
+          hm : HasRank n d (mono_of_rank n d k) k
+          hm = rank-mono_of_rank n d k some l
+
+          quotient : List ℕ
+          quotient = mono_quotient (mono_of_rank n d k) (mono_of_rank n d a)
+
+          long : length (mono_of_rank n d a) ≡ length (mono_of_rank n d k)
+          long = hx.in_ring ∙ sym hm.in_ring
+
+          fits : (length (mono_quotient (mono_of_rank n d k) (mono_of_rank n d a)) ≡ n) × (degree (mono_quotient (mono_of_rank n d k) (mono_of_rank n d a)) ≤ d)
+          fits = quotient_fits n d (mono_of_rank n d k) (mono_of_rank n d a) k a hm hx ((divides_iff (mono_of_rank n d a) (mono_of_rank n d k) long).0 over.divisor)
+
+          hq : HasRank n d quotient q
+          hq = record { in_ring = fits.0; low = fits.1; rank = over.rank }
+
+          hk : HasRank n d (mono_times (mono_of_rank n d a) quotient) k
+          hk = subst (λ m. HasRank n d m k) (mono_times-mono_quotient (mono_of_rank n d a) (mono_of_rank n d k) long over.divisor) hm

@@ -1,0 +1,65 @@
+//! Where runs begin.
+
+ghost use Rattle.std.specs.Prelude.{◌≡◌, ◌<◌, ◌≤◌, length};
+ghost use Rattle.local_order.specs.Count.{monomial_count};
+ghost use Rattle.trunc_row.specs.Rows.{IsRow};
+ghost use Rattle.rank_algebra.specs.Vector.{Agree};
+ghost use Rattle.mora_law.specs.Ring.{ranks_of_problem, generators_of};
+ghost use Rattle.mora_law.specs.Legal.{IsItemOf};
+ghost use Rattle.mora_law.specs.Start.{start_of};
+ghost use Rattle.mora_form.specs.Reducers.{AreRows, AreSummarized};
+ghost use Rattle.mora_form.specs.State.{vector_of_row};
+ghost use Rattle.mora_form.specs.Begin.{basis_in};
+
+use crate::products::cofactor_rank;
+use crate::reducers::Reducers;
+use entry_code::Item;
+use mono_rank::RankTable;
+use prime_field::Field;
+use sparse_poly::Problem;
+use trunc_row::Row;
+
+/// Becomes the row from which the runs of an item begin: the generator, or the S-pair of the two entries.
+pub(crate) fn begin(
+    row: &mut Row,
+    table: &RankTable,
+    problem: &Problem,
+    known: &Reducers,
+    item: Item,
+)
+    requires variables { problem.now.n ≡ table.now.n }
+    requires degree { problem.now.d ≡ table.now.d }
+    requires row { IsRow problem.now.p (monomial_count table.now.n table.now.d) row.old }
+    requires known_rows { AreRows problem.now.p (monomial_count table.now.n table.now.d) known.now.rows.list }
+    requires known { AreSummarized table.now.n table.now.d known.now.rows.list known.now.summaries.items }
+    requires item { IsItemOf (length problem.now.gens) (length known.now.rows.list) item }
+    ensures row { IsRow problem.now.p (monomial_count table.now.n table.now.d) row.new }
+    ensures start { Agree (ranks_of_problem problem.now) (monomial_count table.now.n table.now.d) (vector_of_row row.new)
+        (start_of (ranks_of_problem problem.now) (generators_of problem.now) (basis_in known.now.rows.list known.now.summaries.items) item) }
+{
+    match item {
+        Item::Generator(g) => {
+            row.set_poly(table, problem.gens().get(g as usize));
+        }
+        Item::Pair(i, j) => {
+            let field = problem.field();
+            let first = known.summaries[i as usize].lead;
+            let second = known.summaries[j as usize].lead;
+            row.clear();
+            row.sub_multiple_of(
+                table,
+                field,
+                field.neg(1),
+                cofactor_rank(table, first, second),
+                known.rows.get(i as usize),
+            );
+            row.sub_multiple_of(
+                table,
+                field,
+                1,
+                cofactor_rank(table, second, first),
+                known.rows.get(j as usize),
+            );
+        }
+    }
+}
