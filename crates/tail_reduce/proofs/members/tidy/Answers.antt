@@ -1,0 +1,62 @@
+use Rattle.std.proofs.Common.{◌≡◌, ◌+◌, ◌-◌, ◌%◌, get_or, set, sym, ◌∙◌, ap, subst, arith}
+use Rattle.std.proofs.lemmas.Option.{get_or_from_slice_get}
+use Rattle.entry_code.specs.Entry.{Entry, entry_of, no_entry, entry_at}
+use Rattle.rank_algebra.specs.Vector.{monomial, add, less}
+use Rattle.rank_algebra.specs.Division.{remainder, corner_of}
+use Rattle.mora_law.specs.Ring.{ranks_of_problem}
+use Rattle.mora_law.proofs.Ring.{ranks_are, problem_is_admissible}
+use Rattle.rank_algebra.proofs.Corner.{corner_is}
+use Rattle.mora_law.specs.Entries.{vector_of_terms, lead_rank, basis_of}
+use Rattle.tail_reduce.specs.Rows.{HasVector}
+use Rattle.tail_reduce.proofs.Ranked.{ranks_n}
+use Rattle.tail_reduce.proofs.Terms.{terms_at, lead_small, lead_read}
+use Rattle.tail_reduce.proofs.Leads.{taken_out, put_in}
+use Rattle.tail_reduce.proofs.members.tidy.Goals as goal
+
+pub get-lead-requires : goal.get-lead-requires
+get-lead-requires c = (terms_at c.args.problem.now c.args.entries.now c.args.place c.get.result.now c.requires.entries c.requires.place c.get.ensures).some
+
+pub write-requires-clause-terms : goal.write-requires-clause-terms
+write-requires-clause-terms c = terms_at c.args.problem.now c.args.entries.now c.args.place c.get.result.now c.requires.entries c.requires.place c.get.ensures
+
+pub bounds-row-lead : goal.bounds-row-lead
+bounds-row-lead c =
+    omega (arith, lead_small c.args.problem.now c.args.entries.now c.args.place c.get.result.now c.get-lead.result c.requires.entries c.requires.place c.get.ensures c.get-lead.ensures, c.write.ensures.row.full)
+
+pub bounds-row-lead-2 : goal.bounds-row-lead-2
+bounds-row-lead-2 c =
+    omega (arith, lead_small c.args.problem.now c.args.entries.now c.args.place c.get.result.now c.get-lead.result c.requires.entries c.requires.place c.get.ensures c.get-lead.ensures, c.write.ensures.row.full)
+
+pub bounds-row-lead-3 : goal.bounds-row-lead-3
+bounds-row-lead-3 c =
+    omega (arith, lead_small c.args.problem.now c.args.entries.now c.args.place c.get.result.now c.get-lead.result c.requires.entries c.requires.place c.get.ensures c.get-lead.ensures, c.divide.ensures.row.full)
+
+pub bounds-row-lead-4 : goal.bounds-row-lead-4
+bounds-row-lead-4 c =
+    omega (arith, lead_small c.args.problem.now c.args.entries.now c.args.place c.get.result.now c.get-lead.result c.requires.entries c.requires.place c.get.ensures c.get-lead.ensures, c.divide.ensures.row.full)
+
+pub divide-requires-clause-corner : goal.divide-requires-clause-corner
+divide-requires-clause-corner c =
+    let P = c.args.problem.now in
+    omega (arith, c.requires.corner, (corner_is (ranks_of_problem P) (ranks_are P (problem_is_admissible P c.requires.problem)) (basis_of c.args.entries.now)).within, ranks_n P)
+
+pub returns : goal.returns
+returns c =
+    let P = c.args.problem.now in
+    let R = ranks_of_problem P in
+    let B = basis_of c.args.entries.now in
+    let ts = c.get.result.now.terms.list in
+    let l = c.get-lead.result.rank in
+    let p : c.field-field.result.now ≡ P.p = c.field-field.ensures.value in
+    let at : entry_at c.args.entries.now c.args.place ≡ entry_of c.get.result.now = get_or_from_slice_get c.args.entries.now c.args.place (entry_of c.get.result.now) no_entry c.get.ensures in
+    let small = lead_small P c.args.entries.now c.args.place c.get.result.now c.get-lead.result c.requires.entries c.requires.place c.get.ensures c.get-lead.ensures in
+    let lead : B.lead c.args.place ≡ l = ap (λ (e : Entry). lead_rank e.terms) at ∙ lead_read ts c.get-lead.result c.get-lead.ensures in
+    let out : HasVector P (less R 1 (monomial l) (vector_of_terms ts)) (set c.write.new.row l c.sub.result) =
+    taken_out P (vector_of_terms ts) c.write.new.row l c.sub.result small (c.sub.ensures.value ∙ ap (λ q. (get_or c.write.new.row l 0 + (q - 1)) % q) p) (omega (arith, c.sub.ensures.residue, p)) c.write.ensures in
+    let divided = c.divide.ensures.value (less R 1 (monomial l) (vector_of_terms ts)) out in
+    let back : HasVector P (add (monomial l) (remainder R B c.args.corner (less R 1 (monomial l) (vector_of_terms ts)))) (set c.divide.new.row l c.add.result) =
+    put_in P (remainder R B c.args.corner (less R 1 (monomial l) (vector_of_terms ts))) c.divide.new.row l c.add.result small
+    (c.add.ensures.value ∙ ap (λ q. (get_or c.divide.new.row l 0 + 1) % q) p) (omega (arith, c.add.ensures.residue, p)) divided in
+    let by_corner = subst (λ w. HasVector P (add (monomial l) (remainder R B w (less R 1 (monomial l) (vector_of_terms ts)))) (set c.divide.new.row l c.add.result)) c.requires.corner back in
+    let by_lead = subst (λ k. HasVector P (add (monomial k) (remainder R B (corner_of R B) (less R 1 (monomial k) (vector_of_terms ts)))) (set c.divide.new.row l c.add.result)) (sym lead) by_corner in
+    subst (λ (e : Entry). HasVector P (add (monomial (B.lead c.args.place)) (remainder R B (corner_of R B) (less R 1 (monomial (B.lead c.args.place)) (vector_of_terms e.terms)))) (set c.divide.new.row l c.add.result)) (sym at) by_lead

@@ -1,0 +1,100 @@
+//! A member of the reduced standard basis.
+
+ghost use Rattle.std.specs.Prelude.{◌≡◌, ◌<◌, length, IfOk};
+ghost use Rattle.local_order.specs.Count.{monomial_count};
+ghost use Rattle.sparse_poly.specs.Poly.{in_variables};
+ghost use Rattle.sparse_poly.specs.Ideal.{IsProblem};
+ghost use Rattle.trunc_row.specs.Rows.{IsRow, IsZeroRow};
+ghost use Rattle.rank_algebra.specs.Vector.{Vector};
+ghost use Rattle.rank_algebra.specs.Division.{corner_of};
+ghost use Rattle.mora_law.specs.Ring.{ranks_of_problem};
+ghost use Rattle.mora_law.specs.Entries.{basis_of, terms_of, poly_of_terms};
+ghost use Rattle.mora_law.specs.Basis.{tidied};
+ghost use Rattle.tail_reduce.specs.Rows.{shape_of, HasVector, HaveTerms};
+ghost use Rattle.tail_reduce.specs.Divisors.{AreFirsts};
+
+use crate::divisors::Divisor;
+use crate::rows::{divide, write};
+use entry_code::Entries;
+use mono_rank::RankTable;
+use sparse_poly::{Poly, PolyTerm, Problem};
+use std::alloc::{AllocError, Global};
+
+/// The member that the entry at a place makes: its lead, and what division by all entries leaves of its other terms.
+/// It takes a row of its own, and reads what it shares with other members.
+pub(crate) fn member(
+    alloc: Global,
+    problem: &Problem,
+    table: &RankTable,
+    entries: &Entries,
+    firsts: &[Option<Divisor>],
+    corner: u32,
+    place: u32,
+) -> Result<Poly, AllocError>
+    requires problem { IsProblem problem.now }
+    requires table { table.now ≡ shape_of problem.now }
+    requires entries { HaveTerms problem.now entries.now }
+    requires firsts { AreFirsts (ranks_of_problem problem.now) (basis_of entries.now) (monomial_count problem.now.n problem.now.d) firsts.now }
+    requires corner { corner ≡ corner_of (ranks_of_problem problem.now) (basis_of entries.now) }
+    requires place { place < length entries.now }
+    ensures { IfOk result (λ f. f ≡ in_variables problem.now.n
+        (poly_of_terms problem.now (terms_of (ranks_of_problem problem.now) (tidied (ranks_of_problem problem.now) (basis_of entries.now) place)))) }
+{
+    let mut row = vec![in alloc; 0; table.count() as usize]?;
+    tidy(problem, table, entries, firsts, corner, place, &mut row);
+    polynomial(alloc, problem, table, &row)
+}
+
+/// Writes the lead of the entry at a place, and what division leaves of its other terms, into a row of 0.
+fn tidy(
+    problem: &Problem,
+    table: &RankTable,
+    entries: &Entries,
+    firsts: &[Option<Divisor>],
+    corner: u32,
+    place: u32,
+    row: &mut [u32],
+)
+    requires problem { IsProblem problem.now }
+    requires table { table.now ≡ shape_of problem.now }
+    requires entries { HaveTerms problem.now entries.now }
+    requires firsts { AreFirsts (ranks_of_problem problem.now) (basis_of entries.now) (monomial_count problem.now.n problem.now.d) firsts.now }
+    requires corner { corner ≡ corner_of (ranks_of_problem problem.now) (basis_of entries.now) }
+    requires place { place < length entries.now }
+    requires row { IsRow problem.now.p (monomial_count problem.now.n problem.now.d) row.old }
+    requires zero { IsZeroRow row.old }
+    ensures { HasVector problem.now (tidied (ranks_of_problem problem.now) (basis_of entries.now) place) row.new }
+{
+    let field = problem.field();
+    let terms = &entries.get(place as usize).terms;
+    let lead = terms.get(0).rank as usize;
+    write(problem, terms, row);
+    row[lead] = field.sub(row[lead], 1);
+    divide(problem, table, entries, firsts, corner, row);
+    row[lead] = field.add(row[lead], 1);
+}
+
+/// The polynomial of a row.
+fn polynomial(
+    alloc: Global,
+    problem: &Problem,
+    table: &RankTable,
+    row: &[u32],
+) -> Result<Poly, AllocError>
+    requires table { table.now ≡ shape_of problem.now }
+    requires row { IsRow problem.now.p (monomial_count problem.now.n problem.now.d) row.now }
+    ensures { IfOk result (λ f. (v : Vector) → HasVector problem.now v row.now
+        → f ≡ in_variables problem.now.n (poly_of_terms problem.now (terms_of (ranks_of_problem problem.now) v))) }
+{
+    let mut terms = Vec::new(alloc);
+    for rank in 0..table.count() {
+        let coef = row[rank as usize];
+        if coef != 0 {
+            terms.push(PolyTerm {
+                mono: table.mono(rank),
+                coef,
+            })?;
+        }
+    }
+    Poly::from_terms(alloc, problem.field(), problem.n(), terms)
+}
