@@ -1,0 +1,11 @@
+pub mod Hand
+pub mod State
+pub mod Effects
+pub mod Sound
+pub mod Makes
+pub mod Schedule
+pub mod Idle
+pub mod Within
+pub mod Plain
+pub mod Example
+pub mod HandCode
