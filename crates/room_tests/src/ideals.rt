@@ -10,7 +10,6 @@ use mono_rank::monomial_count;
 use prime_field::Field;
 use sparse_poly::{Poly, PolyTerm, Polys, Problem};
 use std::alloc::Global;
-use std::process::Abort;
 use std::test::Fail;
 
 /// A coefficient and three exponents, of which the first ones count.
@@ -95,7 +94,6 @@ fn has_exps(m: &Mono, want: &Term) -> bool {
 }
 
 /// A problem and what its ideal determines.
-#[derive(Clone, Copy)]
 struct Case<'a> {
     p: u32,
     n: u32,
@@ -107,28 +105,44 @@ struct Case<'a> {
     missing: Option<Term>,
 }
 
-/// Compares what elimination answers.
-fn compare<R: Abort>(rt: &R, alloc: Global, case: Case) -> Result<(), Fail> {
+/// Whether the polynomials have these terms, one after the other.
+fn are_same(members: &[Poly], expected: &[&[Term]]) -> bool {
+    for (f, want) in members.iter().zip(expected) {
+        if !is_same(f, want) {
+            return false;
+        }
+    }
+    members.len() == expected.len()
+}
+
+/// Whether the monomials are these, one after the other.
+fn have_exps(monomials: &[Mono], expected: &[Term]) -> bool {
+    for (m, want) in monomials.iter().zip(expected) {
+        if !has_exps(m, want) {
+            return false;
+        }
+    }
+    monomials.len() == expected.len()
+}
+
+/// Whether elimination answers each question as is known.
+fn is_known(alloc: Global, case: &Case) -> Result<[bool; 4], Fail> {
     let problem = problem(alloc, case.p, case.n, case.d, case.gens)?;
     let echelon = Echelon::of(alloc, &problem)?;
     let members = echelon.basis(alloc)?.into_vec();
-    assert_eq!(rt; members.len(), case.basis.len());
-    for (f, want) in members.iter().zip(case.basis) {
-        assert!(rt; is_same(f, want));
-    }
     let stair = echelon.staircase(alloc)?;
-    assert_eq!(rt; stair.len(), case.staircase.len());
-    for (m, want) in stair.iter().zip(case.staircase) {
-        assert!(rt; has_exps(m, want));
-    }
-    assert_eq!(rt; echelon.leads(alloc)?.len(), case.leads);
-    let same = match (echelon.first_missing(), case.missing) {
+    let leads = echelon.leads(alloc)?;
+    let is_missing = match (echelon.first_missing(), case.missing) {
         (Some(m), Some(want)) => has_exps(&m, &want),
         (None, None) => true,
         _ => false,
     };
-    assert!(rt; same);
-    Ok(())
+    Ok([
+        are_same(&members, case.basis),
+        have_exps(&stair, case.staircase),
+        leads.len() == case.leads,
+        is_missing,
+    ])
 }
 
 // 2xy^2 + 5x^4 and 2x^2y + 5y^4
@@ -305,7 +319,7 @@ const CASES: &[Case] = &[
 #[test]
 fn known_ideals(rt: HostRuntime) -> Result<(), Fail> {
     for case in CASES {
-        compare(&rt, rt.alloc(), *case)?;
+        assert_eq!(rt; is_known(rt.alloc(), case)?, [true; 4]);
     }
     Ok(())
 }

@@ -9,6 +9,8 @@ mod build;
 #[cfg(test)]
 mod corners;
 #[cfg(test)]
+mod entries;
+#[cfg(test)]
 mod ideals;
 #[cfg(test)]
 mod monomials;

@@ -26,10 +26,10 @@ fn exponents(monomial: Option<Mono>) -> [u16; 3] {
 #[test]
 fn monomials_of_degree_four_fall(rt: HostRuntime) -> Result<(), Fail> {
     for (i, first) in FALLING.iter().enumerate() {
+        let a = monomial(&first[..])?;
         for (j, second) in FALLING.iter().enumerate() {
-            let a = monomial(&first[..])?;
             let b = monomial(&second[..])?;
-            assert_eq!(rt; a.cmp_ds(&b), j.cmp(&i), "at {i} and {j}");
+            assert!(rt; a.cmp_ds(&b) == j.cmp(&i), "at {i} and {j}");
         }
     }
     Ok(())
@@ -38,13 +38,13 @@ fn monomials_of_degree_four_fall(rt: HostRuntime) -> Result<(), Fail> {
 #[test]
 fn limits(rt: HostRuntime) {
     let some = [1000; 9];
-    for n in 1..9 {
-        assert!(rt; Mono::new(&some[..n]).is_some(), "{n} variables");
+    let mut made = [false; 10];
+    for n in 0..10 {
+        made[n] = Mono::new(&some[..n]).is_some();
     }
-    assert!(rt; Mono::new(&some[..0]).is_none());
-    assert!(rt; Mono::new(&some).is_none());
+    assert!(rt; made == [false, true, true, true, true, true, true, true, true, false]);
     assert!(rt; Mono::new(&[0, 1001, 0]).is_none());
-    assert_eq!(rt; std::mem::size_of::<Mono>(), 20);
+    assert!(rt; std::mem::size_of::<Mono>() == 20);
 }
 
 #[test]
@@ -52,17 +52,11 @@ fn divisors(rt: HostRuntime) -> Result<(), Fail> {
     let a = monomial(&[2, 1, 0])?;
     let b = monomial(&[1, 0, 3])?;
     let x = monomial(&[1, 0, 0])?;
-    let answers = [
-        x.divides(&a),
-        x.divides(&b),
-        a.divides(&x),
-        a.coprime(&b),
-        x.coprime(&b),
-        monomial(&[0, 5, 0])?.coprime(&b),
-    ];
-    assert_eq!(rt; answers, [true, true, false, false, false, true]);
-    assert_eq!(rt; exponents(a.quotient(&x)), [1, 1, 0]);
-    assert!(rt; a.quotient(&b).is_none());
+    let y = monomial(&[0, 5, 0])?;
+    let divide = [x.divides(&a), x.divides(&b), a.divides(&x)];
+    let coprime = [a.coprime(&b), x.coprime(&b), y.coprime(&b)];
+    assert!(rt; [divide, coprime] == [[true, true, false], [false, false, true]]);
+    assert!(rt; a.quotient(&b).is_none() && exponents(a.quotient(&x)) == [1, 1, 0]);
     Ok(())
 }
 
@@ -71,10 +65,13 @@ fn products(rt: HostRuntime) -> Result<(), Fail> {
     let a = monomial(&[2, 1, 0])?;
     let x = monomial(&[1, 0, 0])?;
     let high = monomial(&[999, 0, 1000])?;
-    assert_eq!(rt; [a.n(), a.degree(), u32::from(a.exp(0))], [3, 3, 2]);
-    assert_eq!(rt; exponents(a.times(&x)), [3, 1, 0]);
-    assert_eq!(rt; exponents(Some(a.lcm(&high))), [999, 1, 1000]);
-    assert_eq!(rt; exponents(high.times(&x)), [1000, 0, 1000]);
+    let found = [
+        exponents(a.times(&x)),
+        exponents(Some(a.lcm(&high))),
+        exponents(high.times(&x)),
+    ];
+    assert!(rt; found == [[3, 1, 0], [999, 1, 1000], [1000, 0, 1000]]);
+    assert!(rt; [a.n(), a.degree(), u32::from(a.exp(0))] == [3, 3, 2]);
     assert!(rt; high.times(&a).is_none());
     Ok(())
 }

@@ -1,25 +1,27 @@
 //! Ranks that were worked out by hand, and whole tables.
 
-ghost use Rattle.std.specs.Prelude.{◌≤◌};
-
 use crate::build::{FALLING, mono};
 use mono_rank::{RankError, RankTable};
 use std::alloc::Global;
-use std::process::Abort;
 use std::test::Fail;
 
 #[test]
 fn monomials_of_degree_four(rt: HostRuntime) -> Result<(), Fail> {
     let table = RankTable::new(rt.alloc(), 2, 4)?;
-    assert_eq!(rt; table.count(), 15);
     for (r, exps) in FALLING.iter().enumerate() {
-        assert_eq!(rt; table.rank(&mono(exps)?), Some(r as u32), "at {r}");
+        let rank = table.rank(&mono(exps)?);
+        assert!(rt; rank == Some(r as u32), "at {r}");
     }
-    assert_eq!(rt; table.rank(&mono(&[5, 0])?), None);
-    for d in 0..5 {
-        let first = [0, 1, 3, 6, 10][d as usize];
-        assert_eq!(rt; table.first_of_degree(d), first);
-    }
+    let high = mono(&[5, 0])?;
+    assert!(rt; table.count() == 15 && table.rank(&high).is_none());
+    let firsts = [
+        table.first_of_degree(0),
+        table.first_of_degree(1),
+        table.first_of_degree(2),
+        table.first_of_degree(3),
+        table.first_of_degree(4),
+    ];
+    assert!(rt; firsts == [0, 1, 3, 6, 10]);
     Ok(())
 }
 
@@ -29,47 +31,51 @@ fn products_and_divisors(rt: HostRuntime) -> Result<(), Fail> {
     if table.count() != 15 {
         return Err("another number of monomials")?;
     }
-    // x times x*y is x^2*y, and y^2 times y^2 is y^4.
-    assert_eq!(rt; table.times_rank(1, 4), Some(7));
-    assert_eq!(rt; table.times_rank(5, 5), Some(14));
-    // x^3 times y^2 has degree 5.
-    assert_eq!(rt; table.times_rank(6, 5), None);
-    assert!(rt; table.divides_rank(4, 12) && !table.divides_rank(5, 11));
-    assert_eq!(rt; table.degree_of(12), 4);
+    // x times x*y is x^2*y, y^2 times y^2 is y^4, and x^3 times y^2 has degree 5.
+    let products = [
+        table.times_rank(1, 4),
+        table.times_rank(5, 5),
+        table.times_rank(6, 5),
+    ];
+    assert!(rt; products == [Some(7), Some(14), None]);
+    let divide = [table.divides_rank(4, 12), table.divides_rank(5, 11)];
+    assert!(rt; divide == [true, false] && table.degree_of(12) == 4);
     Ok(())
 }
 
 #[test]
 fn too_many(rt: HostRuntime) {
-    let refused = match RankTable::new(rt.alloc(), 2, 90) {
-        Ok(_) => None,
-        Err(e) => Some(e),
-    };
-    assert_eq!(rt; refused, Some(RankError::TooManyMonomials(4186)));
+    let refused = RankTable::new(rt.alloc(), 2, 90).err();
+    assert!(rt; refused == Some(RankError::TooManyMonomials(4186)));
 }
 
-/// Compares the monomials of all ranks with their ranks.
-fn compare<R: Abort>(rt: &R, alloc: Global, n: u32, d: u32, count: u32) -> Result<(), Fail>
-    requires some { 1 ≤ n }
-    requires few { n ≤ 8 }
-    requires low { d ≤ 255 }
-{
-    let table = RankTable::new(alloc, n, d)?;
-    assert_eq!(rt; table.count(), count);
-    for r in 0..table.count() {
-        assert_eq!(rt; table.rank(&table.mono(r)), Some(r));
+/// Whether there are so many monomials, and each has its rank.
+fn has_ranks(alloc: Global, n: u32, d: u32, count: u32) -> Result<bool, Fail> {
+    if n < 1 || n > 8 || d > 255 {
+        return Err("beyond the limits")?;
     }
-    Ok(())
+    let table = RankTable::new(alloc, n, d)?;
+    for r in 0..table.count() {
+        if table.rank(&table.mono(r)) != Some(r) {
+            return Ok(false);
+        }
+    }
+    Ok(table.count() == count)
 }
 
 #[test]
 fn greatest_degrees(rt: HostRuntime) -> Result<(), Fail> {
-    compare(&rt, rt.alloc(), 1, 255, 256)?;
-    compare(&rt, rt.alloc(), 2, 89, 4095)?;
-    compare(&rt, rt.alloc(), 3, 27, 4060)?;
-    compare(&rt, rt.alloc(), 4, 15, 3876)?;
-    compare(&rt, rt.alloc(), 5, 10, 3003)?;
-    compare(&rt, rt.alloc(), 6, 8, 3003)?;
-    compare(&rt, rt.alloc(), 7, 7, 3432)?;
-    compare(&rt, rt.alloc(), 8, 6, 3003)
+    for (n, d, count) in [
+        (1, 255, 256),
+        (2, 89, 4095),
+        (3, 27, 4060),
+        (4, 15, 3876),
+        (5, 10, 3003),
+        (6, 8, 3003),
+        (7, 7, 3432),
+        (8, 6, 3003),
+    ] {
+        assert!(rt; has_ranks(rt.alloc(), n, d, count)?, "{n} variables");
+    }
+    Ok(())
 }

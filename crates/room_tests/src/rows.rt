@@ -47,13 +47,11 @@ fn polynomials_are_cut(rt: HostRuntime) -> Result<(), Fail> {
     let field = field(7)?;
     let table = RankTable::new(rt.alloc(), 2, 4)?;
     let f = row(rt.alloc(), &table, &field, CUT)?;
-    assert_eq!(rt; f.len(), 15);
-    assert!(rt; has(&f, &[(1, 3), (5, 5)]));
-    assert_eq!(rt; f.lead(), Some(1));
-    assert_eq!(rt; f.top_degree(&table), Some(2));
     let g = row(rt.alloc(), &table, &field, TAILED)?;
-    assert_eq!(rt; g.lead(), Some(2));
-    assert_eq!(rt; g.top_degree(&table), Some(4));
+    let leads = [f.lead(), g.lead()];
+    let degrees = [f.top_degree(&table), g.top_degree(&table)];
+    assert!(rt; [leads, degrees] == [[Some(1), Some(2)], [Some(2), Some(4)]]);
+    assert!(rt; f.len() == 15 && has(&f, &[(1, 3), (5, 5)]));
     Ok(())
 }
 
@@ -62,12 +60,10 @@ fn zero(rt: HostRuntime) -> Result<(), Fail> {
     let field = field(7)?;
     let table = RankTable::new(rt.alloc(), 2, 4)?;
     let z = Row::zero(rt.alloc(), 15)?;
-    assert!(rt; z.is_zero());
-    assert_eq!(rt; z.lead(), None);
-    assert_eq!(rt; z.top_degree(&table), None);
     // x^5 is cut whole
     let f = row(rt.alloc(), &table, &field, &[([5, 0], 1)])?;
-    assert!(rt; f.is_zero());
+    assert!(rt; [z.is_zero(), f.is_zero()] == [true, true]);
+    assert!(rt; [z.lead(), z.top_degree(&table)] == [None, None]);
     Ok(())
 }
 
@@ -79,17 +75,17 @@ fn multiples(rt: HostRuntime) -> Result<(), Fail> {
     let g = row(rt.alloc(), &table, &field, TAILED)?;
     // less 2x(y + 4x^3 + x^4) = 2xy + x^4, since 8 = 1 and x^5 is cut
     f.sub_multiple(&table, &field, 2, 1, &g);
-    assert!(rt; has(&f, &[(1, 3), (4, 5), (5, 5), (10, 6)]));
+    let is_less = has(&f, &[(1, 3), (4, 5), (5, 5), (10, 6)]);
     // f less 3f is -2f, and 3 times this is f again, since -6 = 1
     let mut h = Row::zero(rt.alloc(), 15)?;
     h.copy_from(&f);
     h.sub_multiple(&table, &field, 3, 0, &f);
-    assert!(rt; has(&h, &[(1, 1), (4, 4), (5, 4), (10, 2)]));
+    let is_scaled = has(&h, &[(1, 1), (4, 4), (5, 4), (10, 2)]);
     h.scale(&field, 3);
-    assert!(rt; has(&h, &[(1, 3), (4, 5), (5, 5), (10, 6)]));
+    let is_back = has(&h, &[(1, 3), (4, 5), (5, 5), (10, 6)]);
     h.cut_at(5);
-    assert!(rt; has(&h, &[(1, 3), (4, 5)]));
+    let is_cut = has(&h, &[(1, 3), (4, 5)]);
     h.cut_at(0);
-    assert!(rt; h.is_zero());
+    assert!(rt; [is_less, is_scaled, is_back, is_cut, h.is_zero()] == [true; 5]);
     Ok(())
 }

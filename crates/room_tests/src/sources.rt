@@ -56,34 +56,38 @@ fn memory_source_is_read_to_its_end(rt: HostRuntime) -> Result<(), Fail> {
     for piece in 1..5 {
         let mut whole = source(alloc, b"abc", piece, &[])?;
         let bytes = read_all(alloc, &mut whole, 3).ok().ok_or("not read")?;
-        assert_eq!(rt; bytes.as_slice(), b"abc".as_slice());
+        assert!(rt; bytes.as_slice() == b"abc".as_slice());
         let mut long = source(alloc, b"abcd", piece, &[])?;
-        assert_eq!(rt;
-            read_all(alloc, &mut long, 3).err(),
-            Some(ReadAllError::TooLong)
-        );
         let mut failing = source(alloc, b"abc", piece, &[1])?;
-        assert_eq!(rt;
+        let refusals = [
+            read_all(alloc, &mut long, 3).err(),
             read_all(alloc, &mut failing, 3).err(),
-            Some(ReadAllError::Failed)
-        );
+        ];
+        assert!(rt; refusals == [Some(ReadAllError::TooLong), Some(ReadAllError::Failed)]);
     }
     Ok(())
+}
+
+/// Whether a sink with so much room that fails at these calls has these bytes of a text in the end, and the answer to it is this.
+fn keeps(
+    alloc: Global,
+    room: usize,
+    failing: &[u64],
+    answer: Result<(), Failed>,
+    kept: &[u8],
+) -> Result<bool, Fail> {
+    let mut sink = MemSink::new(alloc, room, 3, failing.to_vec(alloc)?)?;
+    let written = write_all_counted(&mut sink, b"1 std i\n");
+    Ok(written == answer && sink.bytes() == kept)
 }
 
 #[test]
 fn memory_sink_keeps_what_fits(rt: HostRuntime) -> Result<(), Fail> {
     let alloc = rt.alloc();
-    let mut sink = MemSink::new(alloc, 7, 3, Vec::new(alloc))?;
-    assert_eq!(rt; write_all_counted(&mut sink, b"1 std i\n"), Err(Failed));
-    assert_eq!(rt; sink.bytes(), b"1 std i".as_slice());
-    let mut sink = MemSink::new(alloc, 100, 3, [1].to_vec(alloc)?)?;
-    assert_eq!(rt; write_all_counted(&mut sink, b"1 std i\n"), Err(Failed));
-    assert_eq!(rt; sink.bytes(), b"1 s".as_slice());
-    let mut sink = MemSink::new(alloc, 100, 3, Vec::new(alloc))?;
-    assert_eq!(rt; write_all_counted(&mut sink, b"1 std i\n"), Ok(()));
-    assert_eq!(rt; sink.bytes(), b"1 std i\n".as_slice());
-    assert_eq!(rt; write_all_counted(&mut NoSink, b"1 std i\n"), Ok(()));
+    assert!(rt; keeps(alloc, 7, &[], Err(Failed), b"1 std i")?);
+    assert!(rt; keeps(alloc, 100, &[1], Err(Failed), b"1 s")?);
+    assert!(rt; keeps(alloc, 100, &[], Ok(()), b"1 std i\n")?);
+    assert!(rt; write_all_counted(&mut NoSink, b"1 std i\n").is_ok());
     Ok(())
 }
 
@@ -92,29 +96,28 @@ fn a_reader_of_std_is_a_source(rt: HostRuntime) -> Result<(), Fail> {
     let alloc = rt.alloc();
     let mut source = StdSource::new(b"abc".as_slice());
     let bytes = read_all(alloc, &mut source, 3).ok().ok_or("not read")?;
-    assert_eq!(rt; bytes.as_slice(), b"abc".as_slice());
+    assert!(rt; bytes.as_slice() == b"abc".as_slice());
     let mut failing = StdSource::new(FailingReader {
         call: 0,
         failing: 2,
     });
-    assert_eq!(rt;
+    let refusals = [
         read_all(alloc, &mut failing, 100).err(),
-        Some(ReadAllError::Failed)
-    );
-    assert_eq!(rt;
         read_all(alloc, &mut failing, 100).err(),
-        Some(ReadAllError::TooLong)
-    );
+    ];
+    assert!(rt; refusals == [Some(ReadAllError::Failed), Some(ReadAllError::TooLong)]);
     Ok(())
 }
 
 #[test]
 fn a_writer_of_std_is_a_sink(rt: HostRuntime) -> Result<(), Fail> {
-    let alloc = rt.alloc();
-    let mut sink = StdSink::new(Vec::new(alloc));
-    assert_eq!(rt; write_all_counted(&mut sink, b"abc"), Ok(()));
+    let mut sink = StdSink::new(Vec::new(rt.alloc()));
     let mut full = StdSink::new(FullWriter);
-    assert_eq!(rt; write_all_counted(&mut full, b"abc"), Err(Failed));
-    assert_eq!(rt; write_all_counted(&mut full, b""), Ok(()));
+    let answers = [
+        write_all_counted(&mut sink, b"abc"),
+        write_all_counted(&mut full, b"abc"),
+        write_all_counted(&mut full, b""),
+    ];
+    assert!(rt; answers == [Ok(()), Err(Failed), Ok(())]);
     Ok(())
 }

@@ -5,7 +5,7 @@ ghost use Rattle.std.specs.Str.{IsAscii};
 ghost use Rattle.sparse_poly.specs.Poly.{IsCanonical};
 ghost use Rattle.script_grammar.specs.Statements.{is_on_poly};
 
-use crate::build::{Exponents, field, mono, poly};
+use crate::build::{Exponents, Written, field, mono, poly};
 use prime_field::Field;
 use script_grammar::{Command, Name, Subject, Word};
 use sparse_poly::{Letters, Poly, Polys};
@@ -78,6 +78,19 @@ fn fitting_block(
     )?)
 }
 
+/// The blocks of the commands on ideals, one behind the other.
+fn fitting_blocks(
+    alloc: Global,
+    leads: &[Exponents],
+    monomials: &[Exponents],
+) -> Result<String, Fail> {
+    let mut text = fitting_block(alloc, Word::Std, leads, monomials)?;
+    text.push_str(&fitting_block(alloc, Word::Vdim, leads, monomials)?)?;
+    text.push_str(&fitting_block(alloc, Word::Kbase, leads, monomials)?)?;
+    text.push_str(&fitting_block(alloc, Word::HighCorner, leads, monomials)?)?;
+    Ok(text)
+}
+
 #[test]
 fn monomials(rt: HostRuntime) -> Result<(), Fail> {
     let alloc = rt.alloc();
@@ -88,33 +101,30 @@ fn monomials(rt: HostRuntime) -> Result<(), Fail> {
         ([0, 12], "y^12"),
         ([2, 1], "x^2*y"),
     ] {
-        assert_eq!(rt;
-            mono_text(alloc, &letters, &mono(&exponents)?)?.as_str(),
-            expected
-        );
+        let text = mono_text(alloc, &letters, &mono(&exponents)?)?;
+        assert!(rt; text.as_str() == expected, "{expected}");
     }
     Ok(())
 }
+
+/// Primes, polynomials and their texts.
+const POLYNOMIALS: &[(u32, &[Written], &str)] = &[
+    (32003, &[([2, 1], 1), ([0, 4], 16004)], "x^2*y-15999*y^4"),
+    (32003, &[([0, 2], 16001), ([1, 0], 32002)], "-x+16001*y^2"),
+    (32003, &[([0, 0], 32002)], "-1"),
+    (2, &[([0, 0], 1), ([1, 0], 1), ([0, 1], 3)], "1+x+y"),
+    (2, &[([1, 1], 2)], "0"),
+    (2, &[([0, 0], 1)], "1"),
+];
 
 #[test]
 fn polynomials(rt: HostRuntime) -> Result<(), Fail> {
     let alloc = rt.alloc();
     let letters = letters()?;
-    for (p, terms, expected) in [
-        (
-            32003,
-            &[([2, 1], 1), ([0, 4], 16004)][..],
-            "x^2*y-15999*y^4",
-        ),
-        (32003, &[([0, 2], 16001), ([1, 0], 32002)], "-x+16001*y^2"),
-        (32003, &[([0, 0], 32002)], "-1"),
-        (2, &[([0, 0], 1), ([1, 0], 1), ([0, 1], 3)], "1+x+y"),
-        (2, &[([1, 1], 2)], "0"),
-        (2, &[([0, 0], 1)], "1"),
-    ] {
-        let field = field(p)?;
+    for (p, terms, expected) in POLYNOMIALS {
+        let field = field(*p)?;
         let text = poly_text(alloc, &letters, &field, &poly(alloc, &field, terms)?)?;
-        assert_eq!(rt; text.as_str(), expected);
+        assert!(rt; text.as_str() == *expected, "{expected}");
     }
     Ok(())
 }
@@ -124,48 +134,19 @@ const LEADS: &[Exponents] = &[[3, 0], [2, 1], [0, 3]];
 
 const STAIR: &[Exponents] = &[[0, 0], [1, 0], [0, 1], [2, 0], [1, 1], [0, 2], [1, 2]];
 
-#[test]
-fn blocks(rt: HostRuntime) -> Result<(), Fail> {
-    let alloc = rt.alloc();
-    assert_eq!(rt;
-        fitting_block(alloc, Word::Std, LEADS, STAIR)?.as_str(),
-        "1 std i\n_[1]=x^3\n_[2]=x^2*y\n_[3]=y^3\ncorner x*y^2\ndim 7\n"
-    );
-    assert_eq!(rt;
-        fitting_block(alloc, Word::Vdim, LEADS, STAIR)?.as_str(),
-        "1 vdim i\ndim 7\n"
-    );
-    assert_eq!(rt;
-        fitting_block(alloc, Word::Kbase, LEADS, STAIR)?.as_str(),
-        "1 kbase i\ndim 7\n_[1]=1\n_[2]=x\n_[3]=y\n_[4]=x^2\n_[5]=x*y\n_[6]=y^2\n_[7]=x*y^2\n"
-    );
-    assert_eq!(rt;
-        fitting_block(alloc, Word::HighCorner, LEADS, STAIR)?.as_str(),
-        "1 highcorner i\ncorner x*y^2\n"
-    );
-    Ok(())
-}
+const BLOCKS: &str =
+    "1 std i\n_[1]=x^3\n_[2]=x^2*y\n_[3]=y^3\ncorner x*y^2\ndim 7\n1 vdim i\ndim 7\n1 kbase i\ndim 7\n_[1]=1\n_[2]=x\n_[3]=y\n_[4]=x^2\n_[5]=x*y\n_[6]=y^2\n_[7]=x*y^2\n1 highcorner i\ncorner x*y^2\n";
 
 /// The blocks where 1 is in the ideal.
+const UNIT_BLOCKS: &str =
+    "1 std i\n_[1]=1\ncorner none\ndim 0\n1 vdim i\ndim 0\n1 kbase i\ndim 0\n1 highcorner i\ncorner none\n";
+
 #[test]
-fn blocks_of_a_unit(rt: HostRuntime) -> Result<(), Fail> {
-    let alloc = rt.alloc();
-    assert_eq!(rt;
-        fitting_block(alloc, Word::Std, &[[0, 0]], &[])?.as_str(),
-        "1 std i\n_[1]=1\ncorner none\ndim 0\n"
-    );
-    assert_eq!(rt;
-        fitting_block(alloc, Word::Vdim, &[[0, 0]], &[])?.as_str(),
-        "1 vdim i\ndim 0\n"
-    );
-    assert_eq!(rt;
-        fitting_block(alloc, Word::Kbase, &[[0, 0]], &[])?.as_str(),
-        "1 kbase i\ndim 0\n"
-    );
-    assert_eq!(rt;
-        fitting_block(alloc, Word::HighCorner, &[[0, 0]], &[])?.as_str(),
-        "1 highcorner i\ncorner none\n"
-    );
+fn blocks(rt: HostRuntime) -> Result<(), Fail> {
+    let blocks = fitting_blocks(rt.alloc(), LEADS, STAIR)?;
+    assert_eq!(rt; blocks.as_str(), BLOCKS);
+    let of_a_unit = fitting_blocks(rt.alloc(), &[[0, 0]], &[])?;
+    assert_eq!(rt; of_a_unit.as_str(), UNIT_BLOCKS);
     Ok(())
 }
 
@@ -183,16 +164,15 @@ fn small_degree(rt: HostRuntime) -> Result<(), Fail> {
         &command(alloc, Word::Kbase)?,
         &answer,
     )?;
-    assert_eq!(rt; text.as_str(), "1 kbase i\nD 5 is too small: y^5\n");
+    assert!(rt; text.as_str() == "1 kbase i\nD 5 is too small: y^5\n");
     Ok(())
 }
 
 #[test]
 fn lists(rt: HostRuntime) -> Result<(), Fail> {
-    let alloc = rt.alloc();
-    let mut list = Vec::new(alloc);
+    let mut list = Vec::new(rt.alloc());
     list.push(mono(&[1, 0])?)?;
     let list = Monos::from_vec(list);
-    assert_eq!(rt; (list.len(), list.get(0).degree()), (1, 1));
+    assert!(rt; list.len() == 1 && list.get(0).degree() == 1);
     Ok(())
 }
