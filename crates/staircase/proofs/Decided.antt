@@ -21,7 +21,8 @@ first_or_rest : (x y : ℕ) (xs : List ℕ) → Contains (x ∷ xs) y → (x ≡
 first_or_rest x y xs (zero, l, e) = inl e
 first_or_rest x y xs (suc k, l, e) = inr (k, omega arith, e)
 
-in_rest : (x y : ℕ) (xs : List ℕ) → Contains xs y → Contains (x ∷ xs) y
+-- and a member of the rest is one of the whole
+pub in_rest : (x y : ℕ) (xs : List ℕ) → Contains xs y → Contains (x ∷ xs) y
 in_rest x y xs (k, l, e) = (suc k, omega arith, e)
 
 -- whether the lead l divides m

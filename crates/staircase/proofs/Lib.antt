@@ -12,3 +12,4 @@ pub mod Quotient
 pub mod Decided
 pub mod Degrees
 pub mod Picks
+pub mod Shown

@@ -4,6 +4,8 @@ use Rattle.local_order.specs.Count.{monomial_count}
 use Rattle.mono_rank.specs.Rank.{HasRank, fewer}
 use Rattle.mono_rank.specs.Stored.{HasLimits}
 use Rattle.mono_rank.specs.Cover.{IsMultiple}
+use Rattle.local_order.specs.Mono.{degree}
+use Rattle.sparse_poly.specs.Ideal.{Problem, IsLeadOfIdeal}
 
 -- a staircase is seen as its number of variables, its greatest degree, and its ranks
 pub record Stairs : Type 0 where
@@ -41,3 +43,7 @@ pub record IsKept (n d : ℕ) (ranks firsts : List ℕ) : Type 0 where
   pub rises : IsRising ranks
   pub low : All (λ r. r < monomial_count n d) ranks
   pub starts : HasFirsts n d firsts
+
+-- the leads of the ideal are the multiples of the leads with these ranks
+abbrev pub ShowLeads : Problem → List ℕ → Type 0
+ShowLeads P leads = (m : List ℕ) → length m ≡ P.n → degree m ≤ P.d → IsLeadOfIdeal P m ↔ IsMultiple P.n P.d leads m

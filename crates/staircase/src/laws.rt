@@ -1,15 +1,15 @@
 //! The laws of reduced bases, staircases and leads.
 //! Each is a call that does nothing, and whose contract is the law.
 
-ghost use Rattle.std.specs.Prelude.{◌≡◌, ◌↔◌, ◌+◌, ◌-◌, ◌<◌, ◌≤◌, ℕ, List, [], length, All, Contains, IsTrue, slice_get, Some};
+ghost use Rattle.std.specs.Prelude.{◌≡◌, ◌↔◌, ◌+◌, ◌-◌, ◌<◌, ◌≤◌, ℕ, List, [], length, map, All, Contains, IsTrue, slice_get, Some};
 ghost use Rattle.prime_field.specs.Prime.{IsPrime};
 ghost use Rattle.local_order.specs.Mono.{degree, Divides};
 ghost use Rattle.sparse_poly.specs.Poly.{Poly, IsIn};
 ghost use Rattle.sparse_poly.specs.Ideal.{Problem, IsInIdeal, IsLeadOfIdeal, IsStaircase, Fits, IsFirstMissing, IsReducedBasis, leads_of};
 ghost use Rattle.sparse_poly.specs.Span.{Agree};
-ghost use Rattle.mono_rank.specs.Rank.{HasRank};
+ghost use Rattle.mono_rank.specs.Rank.{HasRank, mono_of_rank};
 ghost use Rattle.mono_rank.specs.Cover.{IsCorner};
-ghost use Rattle.staircase.specs.Stair.{IsStairOf, is_of_degree};
+ghost use Rattle.staircase.specs.Stair.{IsStairOf, is_of_degree, IsLeastOfDegree, ShowLeads};
 ghost use Rattle.staircase.specs.Monomial.{monomial};
 ghost use Rattle.staircase.specs.Quotient.{IsMadeOf, HasRemainder};
 
@@ -79,4 +79,15 @@ pub fn corner_last()
 /// The ranks that count as those of a degree are the ranks of the monomials of that degree.
 pub fn ranks_of_a_degree()
     ensures { (n d : ℕ) (m : List ℕ) (r e : ℕ) → 1 ≤ n → HasRank n d m r → IsTrue (is_of_degree n e r) ↔ (degree m ≡ e) }
+{}
+
+/// Where the leads of the ideal are the multiples of some leads, the staircase of these is the ideal's, the degree fits exactly where
+/// none of its ranks is of degree d, and else the least one of degree d is that of the first missing monomial.
+pub fn stair_of_leads()
+    ensures staircase { (P : Problem) (leads ranks : List ℕ) → 1 ≤ P.n → ShowLeads P leads → IsStairOf P.n P.d leads ranks
+        → IsStaircase P (map (mono_of_rank P.n P.d) ranks) }
+    ensures fits { (P : Problem) (leads ranks : List ℕ) → 1 ≤ P.n → ShowLeads P leads → IsStairOf P.n P.d leads ranks
+        → ((r : ℕ) → Contains ranks r → ¬ IsTrue (is_of_degree P.n P.d r)) ↔ Fits P }
+    ensures missing { (P : Problem) (leads ranks : List ℕ) (r : ℕ) → 1 ≤ P.n → ShowLeads P leads → IsStairOf P.n P.d leads ranks
+        → IsLeastOfDegree P.n P.d ranks r → IsFirstMissing P (mono_of_rank P.n P.d r) }
 {}

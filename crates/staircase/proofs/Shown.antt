@@ -1,0 +1,108 @@
+-- The staircase of leads that show those of an ideal is the staircase of the ideal, and tells whether the degree fits.
+-- Each rank of it is that of a monomial that is no lead; whether a monomial is a multiple of a lead can be tested.
+use Rattle.std.proofs.Common.{◌≡◌, ℕ, zero, suc, ◌<◌, ◌≤◌, ◌↔◌, ◌⊎◌, List, [], ◌∷◌, length, map, get_or, IsTrue, refl, sym, ◌∙◌, ap, subst, inl, inr, arith}
+use Rattle.std.specs.List.{Contains}
+use Rattle.std.proofs.lemmas.Bool.{cases_lt}
+use Rattle.std.proofs.lemmas.List.{length-map, get_or-map}
+use Rattle.std.proofs.lemmas.List.Elements.{Contains-get_or}
+use Rattle.local_order.specs.Mono.{degree}
+use Rattle.local_order.specs.Order.{IsAbove}
+use Rattle.mono_rank.specs.Rank.{HasRank, rank_of, mono_of_rank}
+use Rattle.mono_rank.specs.Cover.{IsMultiple}
+use Rattle.mono_rank.proofs.ByRank.{mono_of_rank-is}
+use Rattle.mono_rank.proofs.Ranks.{rank_above, above_of_rank}
+use Rattle.sparse_poly.specs.Ideal.{Problem, IsLeadOfIdeal, IsFalling, IsStaircase, Fits, IsFirstMissing}
+use Rattle.staircase.specs.Stair.{IsRising, IsStairOf, is_of_degree, IsLeastOfDegree, ShowLeads}
+use Rattle.staircase.proofs.Decided.{in_rest, multiple_decided}
+use Rattle.staircase.proofs.Degrees.{of_degree_is}
+
+-- a rising list without its first number rises
+rising_rest : (r : ℕ) (rs : List ℕ) → IsRising (r ∷ rs) → IsRising rs
+rising_rest r rs h = record { rising = λ i j l m. h.rising (suc i) (suc j) (omega (arith, l)) (omega (arith, m)) }
+
+-- a member of a list is mapped to a member
+mapped : (f : ℕ → List ℕ) (rs : List ℕ) (r : ℕ) → Contains rs r → Contains (map f rs) (f r)
+mapped f rs r (k, l, e) = (k, omega (arith, l, length-map rs f), get_or-map f rs k r (f r) l ∙ ap f e)
+
+-- and a member of the mapped list comes from one
+unmapped : (f : ℕ → List ℕ) (rs : List ℕ) (m : List ℕ) → Contains (map f rs) m → (r : ℕ) × Contains rs r × (f r ≡ m)
+unmapped f rs m (k, l, e) =
+    let within : k < length rs = omega (arith, l, length-map rs f) in
+    (get_or rs k 0, Contains-get_or rs k 0 within, sym (get_or-map f rs k 0 m within) ∙ e)
+
+-- monomials of rising ranks fall
+falls : (n d : ℕ) (rs : List ℕ) → IsRising rs → ((r : ℕ) → Contains rs r → HasRank n d (mono_of_rank n d r) r) → IsFalling (map (mono_of_rank n d) rs)
+falls n d [] h has = tt
+falls n d (a ∷ []) h has = tt
+falls n d (a ∷ b ∷ rs) h has = (first, falls n d (b ∷ rs) (rising_rest a (b ∷ rs) h) (λ r c. has r (in_rest a r (b ∷ rs) c)))
+  where
+    first : IsAbove (mono_of_rank n d a) (mono_of_rank n d b)
+    first =
+        let ha = has a (0, omega arith, refl) in
+        let hb = has b (1, omega arith, refl) in
+        above_of_rank n d (mono_of_rank n d a) (mono_of_rank n d b) ha.in_ring hb.in_ring hb.low (omega (arith, ha.rank, hb.rank, h.rising 0 1 (omega arith) (omega arith)))
+
+module _ (P : Problem) (leads ranks : List ℕ) (some : 1 ≤ P.n) (shown : ShowLeads P leads) (S : IsStairOf P.n P.d leads ranks) where
+  -- each rank of the staircase is that of a monomial that is no multiple
+  ranked : (r : ℕ) → Contains ranks r → HasRank P.n P.d (mono_of_rank P.n P.d r) r × (¬ IsMultiple P.n P.d leads (mono_of_rank P.n P.d r))
+  ranked r c =
+      let x = (S.exactly r).0 c in
+      let same : x.0 ≡ mono_of_rank P.n P.d r = sym (mono_of_rank-is P.n P.d x.0 r x.1) in
+      (subst (λ m. HasRank P.n P.d m r) same x.1, subst (λ m. ¬ IsMultiple P.n P.d leads m) same x.2)
+
+  -- so it is no lead of the ideal
+  no_lead : (r : ℕ) → Contains ranks r → IsLeadOfIdeal P (mono_of_rank P.n P.d r) → ⊥
+  no_lead r c h = let x = ranked r c in x.1 ((shown (mono_of_rank P.n P.d r) x.0.in_ring x.0.low).0 h)
+
+  -- a monomial that is no lead has its rank in the staircase
+  in_stair : (m : List ℕ) → length m ≡ P.n → degree m ≤ P.d → (IsMultiple P.n P.d leads m → ⊥) → Contains ranks (rank_of P.n P.d m)
+  in_stair m e low never = (S.exactly (rank_of P.n P.d m)).1 (m, record { in_ring = e; low = low; rank = refl }, never)
+
+  -- the monomials of the ranks are the staircase of the ideal
+  pub stair_is : IsStaircase P (map (mono_of_rank P.n P.d) ranks)
+  stair_is = record {
+    falling = falls P.n P.d ranks S.rises (λ r c. (ranked r c).0);
+    exactly = λ m e low. (
+      λ c h. let x = unmapped (mono_of_rank P.n P.d) ranks m c in no_lead x.0 x.1 (subst (IsLeadOfIdeal P) (sym x.2) h),
+      λ outside. subst (Contains (map (mono_of_rank P.n P.d) ranks)) (mono_of_rank-is P.n P.d m (rank_of P.n P.d m) (record { in_ring = e; low = low; rank = refl }))
+          (mapped (mono_of_rank P.n P.d) ranks (rank_of P.n P.d m) (in_stair m e low (λ M. outside ((shown m e low).1 M)))),
+    );
+    only = λ m c. let x = unmapped (mono_of_rank P.n P.d) ranks m c in
+        subst (λ k. (length k ≡ P.n) × (degree k ≤ P.d)) x.2 (let h = (ranked x.0 x.1).0 in (h.in_ring, h.low));
+  }
+
+  -- a monomial whose rank isn't in the staircase is a lead
+  lead_or_in : (m : List ℕ) → length m ≡ P.n → degree m ≤ P.d → (Contains ranks (rank_of P.n P.d m) → ⊥) → IsLeadOfIdeal P m
+  lead_or_in m e low out = (shown m e low).1 (go (multiple_decided P.n P.d leads m some e))
+    where
+      go : IsMultiple P.n P.d leads m ⊎ (¬ IsMultiple P.n P.d leads m) → IsMultiple P.n P.d leads m
+      go (inl M) = M
+      go (inr never) = absurd (out (in_stair m e low never))
+
+  -- the degree fits exactly where no rank is of the greatest degree
+  pub fits_by_ranks : ((r : ℕ) → Contains ranks r → ¬ IsTrue (is_of_degree P.n P.d r)) ↔ Fits P
+  fits_by_ranks = (to, from)
+    where
+      to : ((r : ℕ) → Contains ranks r → ¬ IsTrue (is_of_degree P.n P.d r)) → Fits P
+      to none m e top =
+          let h : HasRank P.n P.d m (rank_of P.n P.d m) = record { in_ring = e; low = omega (arith, top); rank = refl } in
+          lead_or_in m e (omega (arith, top)) (λ c. none (rank_of P.n P.d m) c ((of_degree_is P.n P.d m (rank_of P.n P.d m) P.d some h).1 top))
+
+      from : Fits P → (r : ℕ) → Contains ranks r → ¬ IsTrue (is_of_degree P.n P.d r)
+      from fits r c t = let h = (ranked r c).0 in
+          no_lead r c (fits (mono_of_rank P.n P.d r) h.in_ring ((of_degree_is P.n P.d (mono_of_rank P.n P.d r) r P.d some h).0 t))
+
+  -- the least rank of the greatest degree is that of the first missing monomial
+  pub missing_is : (r : ℕ) → IsLeastOfDegree P.n P.d ranks r → IsFirstMissing P (mono_of_rank P.n P.d r)
+  missing_is r l = record { in_ring = h.in_ring; top = (of_degree_is P.n P.d m r P.d some h).0 l.of_degree; missing = no_lead r l.there; first = first }
+    where
+      m : List ℕ
+      m = mono_of_rank P.n P.d r
+
+      h : HasRank P.n P.d m r
+      h = (ranked r l.there).0
+
+      first : (k : List ℕ) → length k ≡ P.n → degree k ≡ P.d → IsAbove k m → IsLeadOfIdeal P k
+      first k e top up = lead_or_in k e (omega (arith, top)) (λ c.
+          let j : HasRank P.n P.d k (rank_of P.n P.d k) = record { in_ring = e; low = omega (arith, top); rank = refl } in
+          omega (arith, l.least (rank_of P.n P.d k) c ((of_degree_is P.n P.d k (rank_of P.n P.d k) P.d some j).1 top), rank_above P.n P.d k m e (omega (arith, top)) up, h.rank))
