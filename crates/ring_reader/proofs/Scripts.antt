@@ -1,5 +1,5 @@
 -- The loop over statements: what it has read, with its names, values and commands, and what it still reads.
-use Rattle.std.proofs.Common.{◌≡◌, ℕ, zero, suc, ◌+◌, ◌<◌, ◌++◌, ◌&&◌, true, false, List, [], ◌∷◌, length, map, nat_le, Result, Ok, refl, sym, ap, subst, ◌∙◌, arith}
+use Rattle.std.proofs.Common.{◌≡◌, ℕ, zero, suc, ◌+◌, ◌<◌, ◌≤◌, ◌++◌, ◌&&◌, true, false, List, [], ◌∷◌, length, map, nat_le, Result, Ok, refl, sym, ap, subst, ◌∙◌, arith}
 use Rattle.std.specs.Prelude.{All}
 use Rattle.std.proofs.lemmas.List.{map-append, length-append, append-nil}
 use mathlib.Core.List.{append_assoc}
@@ -109,8 +109,15 @@ low_polys p n d polys (effects.Command c) all sound = all
 pub sound_ideals : (p n d : ℕ) (ideals : List NamedIdeal) (e : Effect) → All (λ (i : NamedIdeal). All (IsGenerator p n d) i.gens) ideals → IsSoundEffect p n d e → All (λ (i : NamedIdeal). All (IsGenerator p n d) i.gens) (ideals_after ideals e)
 sound_ideals p n d ideals effects.Nothing all sound = all
 sound_ideals p n d ideals (effects.Poly f) all sound = all
-sound_ideals p n d ideals (effects.Ideal i) all sound = All-push (λ (j : NamedIdeal). All (IsGenerator p n d) j.gens) ideals i all sound
+sound_ideals p n d ideals (effects.Ideal i) all sound = All-push (λ (j : NamedIdeal). All (IsGenerator p n d) j.gens) ideals i all sound.0
 sound_ideals p n d ideals (effects.Command c) all sound = all
+
+-- where each declared ideal has at most 64 generators, so has each one behind a sound statement
+pub few_ideals : (p n d : ℕ) (ideals : List NamedIdeal) (e : Effect) → All (λ (i : NamedIdeal). length i.gens ≤ 64) ideals → IsSoundEffect p n d e → All (λ (i : NamedIdeal). length i.gens ≤ 64) (ideals_after ideals e)
+few_ideals p n d ideals effects.Nothing all sound = all
+few_ideals p n d ideals (effects.Poly f) all sound = all
+few_ideals p n d ideals (effects.Ideal i) all sound = All-push (λ (j : NamedIdeal). length j.gens ≤ 64) ideals i all sound.1
+few_ideals p n d ideals (effects.Command c) all sound = all
 
 -- what is asked belongs to the ring, and is counted
 pub sound_commands : (p n d : ℕ) (commands : List Command) (e : Effect) → All (IsCommandIn p n d) commands → IsSoundEffect p n d e → All (IsCommandIn p n d) (commands_after commands e)

@@ -1,6 +1,7 @@
 -- Statements by what the code knows of their parts, and what they leave behind.
-use Rattle.std.proofs.Common.{◌≡◌, ℕ, suc, true, List, [], ◌∷◌, map, Ok, refl, sym, ap, subst, ◌∙◌, arith}
+use Rattle.std.proofs.Common.{◌≡◌, ℕ, suc, ◌≤◌, true, length, List, [], ◌∷◌, map, Ok, refl, sym, ap, subst, ◌∙◌, arith}
 use Rattle.std.specs.Prelude.{All, codes}
+use Rattle.std.proofs.lemmas.List.{length-map}
 use Rattle.std.proofs.lemmas.List.Elements.{All-map}
 use Rattle.sparse_poly.specs.Poly.{Poly, Polynomial, in_variables, IsCanonical, HasDegreeAtMost}
 use Rattle.script_grammar.specs.declared.refusal.What.TheVariants as whats
@@ -42,3 +43,7 @@ terms_of_ring v (g ∷ gens) = ap (λ l. g ∷ l) (terms_of_ring v gens)
 pub generators_problem : (p n d : ℕ) (gens : List Polynomial) → All (IsGenerator p n d) gens → All (IsCanonical p n) (map (λ (f : Polynomial). f.terms) gens) × All (HasDegreeAtMost d) (map (λ (f : Polynomial). f.terms) gens)
 generators_problem p n d gens all =
     (All-map (IsCanonical p n) (λ (f : Polynomial). f.terms) gens (λ k x within. (all k x within).canonical), All-map (HasDegreeAtMost d) (λ (f : Polynomial). f.terms) gens (λ k x within. (all k x within).low))
+
+-- at most 64 polynomials have at most 64 lists of terms
+pub generators_few : (gens : List Polynomial) → length gens ≤ 64 → length (map (λ (f : Polynomial). f.terms) gens) ≤ 64
+generators_few gens few = omega (arith, length-map gens (λ (f : Polynomial). f.terms), few)

@@ -22,7 +22,7 @@ pub record IsGenerator (p n d : ℕ) (f : Polynomial) : Type 0 where
   pub canonical : IsCanonical p n f.terms
   pub low : HasDegreeAtMost d f.terms
 
--- the ring and the degree are within the limits, and the values belong to them
+-- the ring and the degree are within the limits, the values belong to them, and each ideal has at most 64 generators
 pub record IsSound (names : Names) : Type 0 where
   pub prime : InTable names.field
   pub letters : AreLetters names.letters
@@ -32,10 +32,11 @@ pub record IsSound (names : Names) : Type 0 where
   pub polys : All (λ (f : NamedPoly). IsValue names.field (length names.letters) f.value) names.polys.now
   pub polys_low : All (λ (f : NamedPoly). HasDegreeAtMost (names.d + 1) f.value.terms) names.polys.now
   pub ideals : All (λ (i : NamedIdeal). All (IsGenerator names.field (length names.letters) names.d) i.gens) names.ideals.now
+  pub ideals_few : All (λ (i : NamedIdeal). length i.gens ≤ 64) names.ideals.now
 
--- what a statement declares or asks belongs to the ring and the degree
+-- what a statement declares or asks belongs to the ring and the degree, and an ideal has at most 64 generators
 abbrev pub IsSoundEffect : ℕ → ℕ → ℕ → Effect → Type 0
 IsSoundEffect p n d effects.Nothing = Unit {0}
 IsSoundEffect p n d (effects.Poly f) = IsValue p n f.value × HasDegreeAtMost (d + 1) f.value.terms
-IsSoundEffect p n d (effects.Ideal i) = All (IsGenerator p n d) i.gens
+IsSoundEffect p n d (effects.Ideal i) = All (IsGenerator p n d) i.gens × (length i.gens ≤ 64)
 IsSoundEffect p n d (effects.Command c) = IsCommandIn p n d c

@@ -135,6 +135,7 @@ pub(crate) fn members<'a>(
     ensures gives { Gives (λ x. (x.0.items, place_of x.1)) result
         (meant (members_gens (values_of names.now)) (members_from (declarations_of names.now) (place_of here.entry))) }
     ensures valid { IfOk result (λ x. All (IsGenerator names.now.field (length names.now.letters) names.now.d) x.0.items) }
+    ensures few { IfOk result (λ x. length x.0.items ≤ 64) }
     ensures shorter { IfOk result (λ x. x.1.left ≤ here.entry.left - 1) }
 {
     let mut gens = Vec::new(alloc);

@@ -55,6 +55,7 @@ fn same_generators(alloc: Global, names: &Names, name: &[u8]) -> Result<Polys, A
     requires known { is_one_of (declarations_of names.now).ideals name.now ≡ true }
     ensures value { IfOk result (λ g. map (λ f. f.terms) g ≡ value_in (values_of names.now).ideals [] name.now) }
     ensures valid { IfOk result (All (IsGenerator names.now.field (length names.now.letters) names.now.d)) }
+    ensures few { IfOk result (λ g. length g ≤ 64) }
 {
     let Some(ideal) = find(names.ideals, name) else {
         unreachable!()

@@ -13,7 +13,8 @@ pub record Problem : Type 0 where
   pub d : ℕ
   pub gens : List Poly
 
--- the limits of a problem: the prime is offered, at most 4,096 monomials have degree at most d, and so have the generators
+-- the limits of a problem: the prime is offered, at most 4,096 monomials have degree at most d, and so have the
+-- generators, of which there are at most 64
 pub record IsProblem (P : Problem) : Type 0 where
   pub prime : InTable P.p
   pub some : 1 ≤ P.n
@@ -23,6 +24,7 @@ pub record IsProblem (P : Problem) : Type 0 where
   pub monomials : monomial_count P.n P.d ≤ 4096
   pub canonical : All (IsCanonical P.p P.n) P.gens
   pub low : All (HasDegreeAtMost P.d) P.gens
+  pub few_gens : length P.gens ≤ 64
 
 -- cut g = cut (q_0 * f_0 + q_1 * f_1 + ..) for some polynomials q_i
 pub record IsInIdeal (P : Problem) (g : Poly) : Type 0 where

@@ -1,6 +1,6 @@
 //! Problems: generators of an ideal, to be taken modulo a degree.
 
-ghost use Rattle.std.specs.Prelude.{◌≡◌, map, All, IfOk};
+ghost use Rattle.std.specs.Prelude.{◌≡◌, length, map, All, IfOk};
 ghost use Rattle.sparse_poly.specs.Poly.{in_variables};
 ghost use Rattle.sparse_poly.specs.Ideal.{IsProblem};
 
@@ -71,6 +71,13 @@ impl Problem {
         ensures problem { IsProblem self.now }
     {
         &self.gens
+    }
+
+    /// The number of generators, at most 64.
+    pub fn generator_count(&self) -> u32
+        ensures { result ≡ length self.now.gens }
+    {
+        self.gens.len() as u32
     }
 
     /// A copy.

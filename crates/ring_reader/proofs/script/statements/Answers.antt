@@ -5,7 +5,7 @@ use Rattle.script_tokens.specs.PlaceView.{place_of}
 use Rattle.script_grammar.specs.Words.{is_the_end}
 use Rattle.ring_reader.specs.RingView.{ring_of}
 use Rattle.ring_reader.proofs.Handed.{gives_failed}
-use Rattle.ring_reader.proofs.Scripts.{script_begins, script_goes_by, script_fails_by, script_ends, sound_polys, low_polys, sound_ideals, sound_commands, asked_count}
+use Rattle.ring_reader.proofs.Scripts.{script_begins, script_goes_by, script_fails_by, script_ends, sound_polys, low_polys, sound_ideals, few_ideals, sound_commands, asked_count}
 use Rattle.ring_reader.proofs.script.statements.Goals as goal
 
 pub loop-here-init : goal.loop-here-init
@@ -14,6 +14,7 @@ loop-here-init c = record {
   polys = rw c.new-scope.ensures.polys (All-nil _);
   polys_low = rw c.new-scope.ensures.polys (All-nil _);
   ideals = rw c.new-scope.ensures.ideals (All-nil _);
+  ideals_few = rw c.new-scope.ensures.ideals (All-nil _);
   belong = rw c.new-scope.ensures.commands (All-nil _);
   few = rw c.new-scope.ensures.commands (omega arith);
 }
@@ -37,6 +38,7 @@ loop-here-preserved c =
       polys = rw c.in_ok-apply.ensures.polys (sound_polys c.args.ring.now.prime (length c.args.ring.now.letters.items) c.args.d c.loop-here.scope.polys.items c.in_ok-effect.effect c.loop-here.invariant.polys sound);
       polys_low = rw c.in_ok-apply.ensures.polys (low_polys c.args.ring.now.prime (length c.args.ring.now.letters.items) c.args.d c.loop-here.scope.polys.items c.in_ok-effect.effect c.loop-here.invariant.polys_low sound);
       ideals = rw c.in_ok-apply.ensures.ideals (sound_ideals c.args.ring.now.prime (length c.args.ring.now.letters.items) c.args.d c.loop-here.scope.ideals.items c.in_ok-effect.effect c.loop-here.invariant.ideals sound);
+      ideals_few = rw c.in_ok-apply.ensures.ideals (few_ideals c.args.ring.now.prime (length c.args.ring.now.letters.items) c.args.d c.loop-here.scope.ideals.items c.in_ok-effect.effect c.loop-here.invariant.ideals_few sound);
       belong = rw c.in_ok-apply.ensures.commands (sound_commands c.args.ring.now.prime (length c.args.ring.now.letters.items) c.args.d c.loop-here.scope.commands.items c.in_ok-effect.effect c.loop-here.invariant.belong sound);
       few = rw c.in_ok-apply.ensures.commands (omega (arith, asked_count c.loop-here.scope.commands.items c.in_ok-effect.effect, c.len.ensures, c.in_ok-effect.ensures.few));
     }

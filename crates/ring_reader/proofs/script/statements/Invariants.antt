@@ -14,6 +14,7 @@ invariant-loop-here l = record {
   polys : All (λ f. IsValue l.ring.prime (length l.ring.letters.items) f.value) l.scope.polys.items;
   polys_low : All (λ f. HasDegreeAtMost (l.d + 1) f.value.terms) l.scope.polys.items;
   ideals : All (λ i. All (IsGenerator l.ring.prime (length l.ring.letters.items) l.d) i.gens) l.scope.ideals.items;
+  ideals_few : All (λ i. length i.gens ≤ 64) l.scope.ideals.items;
   belong : All (IsCommandIn l.ring.prime (length l.ring.letters.items) l.d) l.scope.commands.items;
   few : length l.scope.commands.items ≤ 64;
 }

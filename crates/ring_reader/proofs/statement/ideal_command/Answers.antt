@@ -1,5 +1,5 @@
 use Rattle.std.proofs.Common.{length}
-use Rattle.ring_reader.proofs.Statements.{generators_problem}
+use Rattle.ring_reader.proofs.Statements.{generators_problem, generators_few}
 use Rattle.ring_reader.proofs.statement.ideal_command.Goals as goal
 
 pub new-problem-requires-clause-problem : goal.new-problem-requires-clause-problem
@@ -15,4 +15,5 @@ new-problem-requires-clause-problem c =
       monomials = c.requires.sound.few;
       canonical = parts.0;
       low = parts.1;
+      few_gens = generators_few c.in_ok-gens.gens c.in_ok-gens.ensures.few;
     })
