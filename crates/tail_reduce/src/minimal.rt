@@ -6,12 +6,14 @@ ghost use Rattle.sparse_poly.specs.Ideal.{Problem as IdealProblem};
 ghost use Rattle.entry_code.specs.Entry.{entry_at};
 ghost use Rattle.rank_algebra.specs.Division.{Basis};
 ghost use Rattle.mora_law.specs.Ring.{ranks_of_problem};
+ghost use Rattle.mora_law.specs.Legal.{Legal};
 ghost use Rattle.mora_law.specs.Basis.{is_minimal, minimal_with};
 ghost use Rattle.tail_reduce.specs.Divisors.{leads_of, AreLeadsOf, minimal_places};
 
 use crate::divisors::quotient_rank;
 use entry_code::Entries;
 use mono_rank::RankTable;
+use sparse_poly::Problem;
 use std::alloc::{AllocError, Global};
 
 /// The ranks of the leads of the entries.
@@ -23,6 +25,22 @@ pub(crate) fn leads(alloc: Global, entries: &Entries) -> Result<Vec<u32>, AllocE
     for place in 0..entries.len() {
         leads.push(entries.get(place).terms.get(0).rank)?;
     }
+    Ok(leads)
+}
+
+/// The ranks of the leads of legal entries.
+pub fn lead_ranks(
+    alloc: Global,
+    problem: &Problem,
+    entries: &Entries,
+) -> Result<Vec<u32>, AllocError>
+    requires { Legal problem.now entries.now }
+    ensures value { IfOk result (λ v. v.items ≡ leads_of entries.now) }
+    ensures small { IfOk result (λ v. All (λ l. l < monomial_count problem.now.n problem.now.d) v.items) }
+{
+    // A problem is within its limits, which its field is lent with.
+    let _field = problem.field();
+    let leads = leads(alloc, entries)?;
     Ok(leads)
 }
 
