@@ -19,3 +19,9 @@ pub mod Within
 pub mod Plain
 pub mod Copies
 pub mod Room
+pub mod Learnable
+pub mod Learned
+pub mod Working
+pub mod Publishing
+pub mod Claimed
+pub mod Turns

@@ -17,7 +17,7 @@ use Rattle.mora_law.specs.Items.{tickets}
 use Rattle.run_core.specs.Hand.{has_open, hand_end, reads_of, read, draft, marked}
 use Rattle.run_core.specs.State.{Seat, State, steps_of}
 use Rattle.run_core.specs.Effects.{won, later, with_seat, rested}
-use Rattle.run_core.specs.Makes.{Makes}
+use Rattle.run_core.specs.Makes.{CanPublish, Makes}
 use Rattle.run_core.specs.Sound.{IsSound}
 use Rattle.run_core.specs.Idle.{AllIdle, SettlesAll}
 use Rattle.run_core.specs.Plain.{Plain, plain_opening, is_working, plain_end, plain_draft, plain_claimed, plain_cornered, plain_published, plain_seat, plain}
@@ -58,13 +58,17 @@ module _ (b : Plain) where
     })) (sym all),
   )
 
+  -- the seat may publish the entry of its hand
+  pub plain_can_publish : is_working b ≡ true → plain_end b ≡ Some Stuck → last_known 0 (reads_of b.hand) ≡ length b.entries → CanPublish (plain b) (plain_seat b)
+  plain_can_publish opened stuck knows = (ap (λ l. has_open b.problem l b.hand) all ∙ opened, refl, ap (λ l. hand_end b.problem l b.hand) all ∙ stuck, knows)
+
   -- an entry is published
   pub plain_publishes : is_working b ≡ true → plain_end b ≡ Some Stuck → last_known 0 (reads_of b.hand) ≡ length b.entries →
       Makes Publish (plain b) 0 (plain (plain_published b))
   plain_publishes opened stuck knows = (
     plain_seat b,
     refl,
-    (ap (λ l. has_open b.problem l b.hand) all ∙ opened, refl, ap (λ l. hand_end b.problem l b.hand) all ∙ stuck, knows),
+    plain_can_publish opened stuck knows,
     by_count ∙ ap (λ l. made (b.entries ++ draft b.problem l b.hand ∷ []) (suc (length b.entries)) (sum_by steps_of b.entries + steps_of (draft b.problem l b.hand))) (sym all),
   )
     where

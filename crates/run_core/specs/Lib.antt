@@ -9,3 +9,5 @@ pub mod Within
 pub mod Plain
 pub mod Example
 pub mod HandCode
+pub mod Work
+pub mod Finished

@@ -1,10 +1,15 @@
-//! The machine of several workers: its states, its events, and what every state that comes about keeps.
+//! The machine of several workers: its states, its events, and what every state that comes about keeps; and the computation with one worker.
 #![tactic(auto)]
 
+mod counts;
 mod event;
 mod ghost_hand;
 pub mod laws;
 mod plain_board;
+mod plain_run;
+mod plain_worker;
 
+pub use counts::Counts;
 pub use event::Event;
 pub use plain_board::PlainBoard;
+pub use plain_run::{Finished, run_plain};

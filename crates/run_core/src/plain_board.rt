@@ -159,4 +159,11 @@ impl PlainBoard {
     {
         &self.entries
     }
+
+    /// The entries alone.
+    pub fn into_entries(self) -> Entries
+        ensures { result ≡ self.entries }
+    {
+        self.entries
+    }
 }
