@@ -1,5 +1,6 @@
 pub mod Built
 pub mod Rings
+mod Settled
 pub mod Blocks
 pub mod Ends
 pub mod Dues

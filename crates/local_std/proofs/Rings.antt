@@ -1,4 +1,4 @@
--- What elimination gives is in the ring of its problem.
+-- What answers a problem is in its ring: the members of its reduced basis, and the monomials of its staircase.
 use Rattle.std.proofs.Common.{◌≡◌, ℕ, zero, suc, ◌<◌, List, [], ◌∷◌, length, map, refl, arith, get_or}
 use Rattle.std.specs.Prelude.{All}
 use Rattle.sparse_poly.specs.Poly.{Poly, Polynomial, IsCanonical}

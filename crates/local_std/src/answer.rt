@@ -1,41 +1,83 @@
 // The answer of an ideal.
-ghost use Rattle.std.specs.Prelude.{◌≡◌, IfOk};
+ghost use Rattle.std.specs.Prelude.{◌≡◌, ◌<◌, map, All, Contains, IfOk};
 ghost use Rattle.std.specs.Bool.{OnTrue, OnFalse};
+ghost use Rattle.local_order.specs.Count.{monomial_count};
+ghost use Rattle.mono_rank.specs.Rank.{mono_of_rank};
 ghost use Rattle.sparse_poly.specs.Ideal.{Problem as IdealProblem, Fits};
+ghost use Rattle.mora_law.specs.Legal.{Legal};
+ghost use Rattle.mora_law.specs.Settled.{AllSettled};
+ghost use Rattle.staircase.specs.Stair.{IsStairOf};
+ghost use Rattle.tail_reduce.specs.Rows.{shape_of};
+ghost use Rattle.tail_reduce.specs.Divisors.{leads_of};
 ghost use Rattle.text_out.specs.Answers.{IsInRing};
 ghost use Rattle.local_std.specs.Answer.{IsAnswerOf};
 
-use elimination::Echelon;
+use entry_code::Entries;
+use local_order::Mono;
+use mono_rank::RankTable;
+use run_core::run_plain;
 use sparse_poly::Problem;
+use staircase::Stair;
 use std::alloc::{AllocError, Global};
+use tail_reduce::{lead_ranks, reduced};
 use text_out::{Answer, Monos};
 
-/// The answer of a problem's ideal, by elimination.
+/// The answer of a problem's ideal, by runs of Mora's normal form.
 pub fn answer_of(alloc: Global, problem: &Problem) -> Result<Answer, AllocError>
     ensures value { IfOk result (λ a. IsAnswerOf problem.now a) }
     ensures ring { IfOk result (λ a. IsInRing problem.now.p problem.now.n a) }
 {
-    let echelon = Echelon::of(alloc, problem)?;
-    match echelon.first_missing() {
-        Some(missing) => Ok(Answer::TooSmall { missing }),
-        None => fitting_answer(alloc, problem, &echelon),
-    }
+    // A problem is within its limits, which its field is lent with.
+    let _field = problem.field();
+    let finished = run_plain(alloc, problem)?;
+    let answer = answer_by(alloc, problem, &finished.entries)?;
+    Ok(answer)
 }
 
-/// The answer where the degree fits.
-fn fitting_answer(alloc: Global, problem: &Problem, echelon: &Echelon) -> Result<Answer, AllocError>
-    requires echelon { echelon.now ≡ problem.now }
-    requires fits { Fits problem.now }
+/// The answer by legal entries that settle every ticket.
+fn answer_by(alloc: Global, problem: &Problem, entries: &Entries) -> Result<Answer, AllocError>
+    requires legal { Legal problem.now entries.now }
+    requires settled { AllSettled problem.now entries.now }
     ensures value { IfOk result (λ a. IsAnswerOf problem.now a) }
     ensures ring { IfOk result (λ a. IsInRing problem.now.p problem.now.n a) }
 {
-    let _problem = problem;
-    let basis = echelon.basis(alloc)?;
-    let stair = echelon.staircase(alloc)?;
-    Ok(Answer::Fits {
-        basis,
-        stair: Monos::from_vec(stair),
-    })
+    // A problem is within its limits, which its field is lent with.
+    let _field = problem.field();
+    let table = table_of(alloc, problem)?;
+    let leads = lead_ranks(alloc, problem, entries)?;
+    let stair = Stair::of(alloc, &table, &leads)?;
+    match stair.first_missing() {
+        Some(rank) => Ok(Answer::TooSmall {
+            missing: table.mono(rank),
+        }),
+        None => Ok(Answer::Fits {
+            basis: reduced(alloc, problem, &table, entries)?,
+            stair: Monos::from_vec(monomials(alloc, &table, stair.list().as_slice())?),
+        }),
+    }
+}
+
+/// The ranks of the problem's monomials.
+fn table_of(alloc: Global, problem: &Problem) -> Result<RankTable, AllocError>
+    ensures { IfOk result (λ t. t ≡ shape_of problem.now) }
+{
+    let _field = problem.field();
+    let Ok(table) = RankTable::new(alloc, problem.n(), problem.d()) else {
+        return Err(AllocError);
+    };
+    Ok(table)
+}
+
+/// The monomials of some ranks.
+fn monomials(alloc: Global, table: &RankTable, ranks: &[u32]) -> Result<Vec<Mono>, AllocError>
+    requires { All (λ r. r < monomial_count table.now.n table.now.d) ranks.now }
+    ensures { IfOk result (λ v. v.items ≡ map (mono_of_rank table.now.n table.now.d) ranks.now) }
+{
+    let mut monomials = Vec::with_capacity(alloc, ranks.len())?;
+    for place in 0..ranks.len() {
+        monomials.push(table.mono(ranks[place]))?;
+    }
+    Ok(monomials)
 }
 
 /// Whether the degree fits.

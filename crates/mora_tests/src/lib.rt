@@ -14,6 +14,8 @@ mod criteria;
 #[cfg(test)]
 mod jacobian;
 #[cfg(test)]
+mod one_worker;
+#[cfg(test)]
 mod problems;
 #[cfg(test)]
 mod rows;

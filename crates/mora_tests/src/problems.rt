@@ -71,5 +71,8 @@ pub fn problem(
     for terms in gens {
         made.push(poly(alloc, &field, n, d, terms)?)?;
     }
+    if made.len() > 64 {
+        return Err("too many generators")?;
+    }
     Ok(Problem::new(field, n, d, made))
 }

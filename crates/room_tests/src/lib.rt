@@ -11,8 +11,6 @@ mod corners;
 #[cfg(test)]
 mod entries;
 #[cfg(test)]
-mod ideals;
-#[cfg(test)]
 mod monomials;
 #[cfg(test)]
 mod numbers;

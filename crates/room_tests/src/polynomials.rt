@@ -131,6 +131,7 @@ fn problems(rt: HostRuntime) -> Result<(), Fail> {
     let numbers = [problem.field().prime(), problem.n(), problem.d()];
     let copied = [copy.field().prime(), copy.n(), copy.d()];
     assert!(rt; [numbers, copied] == [[5, 2, 4]; 2]);
+    assert!(rt; [problem.generator_count(), copy.generator_count()] == [1, 1]);
     assert!(rt; problem.gens().len() == 1 && has_terms(problem.gens().get(0), &[([1, 0], 1)]));
     Ok(())
 }

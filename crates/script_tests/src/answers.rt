@@ -17,7 +17,7 @@ struct Row {
 const JACOBIAN: &[u8] =
     b"1 std i\n_[1]=x^2*y-15999*y^4\n_[2]=x*y^2-15999*x^4\n_[3]=x^5-y^5\n_[4]=y^6\ncorner y^5\ndim 11\n";
 
-const ROWS: [Row; 34] = [
+const ROWS: [Row; 36] = [
     // a fat point whose corner is no power of a variable
     Row {
         script: b"ring r=32003,(x,y),ds;\nnoether=x^5;\nideal i=x3,x2y,y3; std(i);\n",
@@ -98,6 +98,18 @@ const ROWS: [Row; 34] = [
         script: b"ring r=5,(x),ds;\nnoether=x;\nideal i=x; std(i);\n",
         status: Status::Fits,
         answer: b"1 std i\n_[1]=x\ncorner 1\ndim 1\n",
+    },
+    // a pure power of each variable is among the leads, and x^2*y isn't
+    Row {
+        script: b"ring r=32003,(x,y),ds;\nnoether=x^3;\nideal i=x3,y3; std(i);\n",
+        status: Status::TooSmall,
+        answer: b"1 std i\nD 3 is too small: x^2*y\n",
+    },
+    // squares modulo another prime
+    Row {
+        script: b"ring r=65521,(x,y,z),ds;\nnoether=x^4;\nideal i=x2,y2,z2; std(i); kbase(i);\n",
+        status: Status::Fits,
+        answer: b"1 std i\n_[1]=x^2\n_[2]=y^2\n_[3]=z^2\ncorner x*y*z\ndim 8\n2 kbase i\ndim 8\n_[1]=1\n_[2]=x\n_[3]=y\n_[4]=z\n_[5]=x*y\n_[6]=x*z\n_[7]=y*z\n_[8]=x*y*z\n",
     },
     // two commands, one of which doesn't fit
     Row {

@@ -1,4 +1,5 @@
-use Rattle.std.proofs.Common.{◌≡◌, All, sym, subst}
+use Rattle.std.proofs.Common.{◌≡◌, All, sym, subst, arith}
+use Rattle.std.proofs.lemmas.List.{length-map}
 use Rattle.std.proofs.lemmas.List.Elements.{All-nil, All-push, All-map}
 use Rattle.mono_rank.specs.Stored.{HasLimits}
 use Rattle.sparse_poly.specs.Poly.{Polynomial, IsCanonical, HasDegreeAtMost}
@@ -21,6 +22,7 @@ new-requires-clause-problem c =
       monomials = within.small;
       canonical = All-map (IsCanonical p n) (λ (f : Polynomial). f.terms) c.loop-terms.made (λ k e l. (are k e l).1);
       low = All-map (HasDegreeAtMost d) (λ (f : Polynomial). f.terms) c.loop-terms.made (λ k e l. (are k e l).2);
+      few_gens = omega (arith, length-map c.loop-terms.made (λ (f : Polynomial). f.terms), c.len.ensures, c.if-len-gt64.false);
     }
 
 pub loop-terms-init : goal.loop-terms-init

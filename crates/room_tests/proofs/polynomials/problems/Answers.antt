@@ -1,4 +1,4 @@
-use Rattle.std.proofs.Common.{◌≡◌, [], ◌∷◌, ◌++◌, All, map, subst, sym, ◌∙◌, ap, lit≤}
+use Rattle.std.proofs.Common.{◌≡◌, ◌≤◌, length, [], ◌∷◌, ◌++◌, All, map, subst, sym, ◌∙◌, ap, lit≤}
 use Rattle.std.proofs.lemmas.List.Elements.{All-nil, All-cons}
 use Rattle.sparse_poly.specs.Poly.{IsCanonical, HasDegreeAtMost}
 use Rattle.sparse_poly.proofs.Cuts.{HasDegreeAtMost-cut}
@@ -21,4 +21,5 @@ new-problem-requires-clause-problem g c =
       monomials = lit≤ tt;
       canonical = subst (λ l. All (IsCanonical c.in_ok-five.five 2) (map (λ f. f.terms) l)) (sym gens) (All-cons (IsCanonical c.in_ok-five.five 2) c.in_ok-cut.field-0.terms [] form (All-nil (IsCanonical c.in_ok-five.five 2)));
       low = subst (λ l. All (HasDegreeAtMost 4) (map (λ f. f.terms) l)) (sym gens) (All-cons (HasDegreeAtMost 4) c.in_ok-cut.field-0.terms [] low (All-nil (HasDegreeAtMost 4)));
+      few_gens = subst (λ l. length (map (λ f. f.terms) l) ≤ 64) (sym gens) (lit≤ tt);
     }

@@ -1,4 +1,0 @@
-pub mod Rows
-pub mod Pivots
-pub mod Echelon
-pub mod Places
