@@ -43,10 +43,12 @@ IsCoprime-from_places a b each c e f g = degree_zero c (λ k. at k (cases_lt k (
 variable : (n k : ℕ) → List ℕ
 variable n k = let z : ℕ = 0 in set (replicate n z) k 1
 
+-- it has n exponents
 length-variable : (n k : ℕ) → length (variable n k) ≡ n
 unfolding variable
 length-variable n k = let z : ℕ = 0 in length-set (replicate n z) k 1 ∙ length-replicate n z
 
+-- of which that at place k is 1
 variable_at : (n k : ℕ) → k < n → get_or (variable n k) k 0 ≡ 1
 unfolding variable
 variable_at n k l = let z : ℕ = 0 in get_or-set_same (replicate n z) k 1 0 (omega (arith, length-replicate n z))

@@ -44,6 +44,7 @@ blocks_push s i (d ∷ cs) c text block (first, rest, one, more, spelled) is = (
 )
 
 module _ (s : Script) (cs : List Command) (k : ℕ) (c : Command) (at : slice_get cs k ≡ Some c) (text block : List ℕ) (is : IsBlock s (k + 1) c block) where
+  -- the blocks of k commands and that of the next are the blocks of one command more
   blocks_next : AreBlocks s 1 (take k cs) text → AreBlocks s 1 (take (k + 1) cs) (text ++ block)
   blocks_next are =
       let within = slice_get_within cs k c at in
@@ -51,15 +52,18 @@ module _ (s : Script) (cs : List Command) (k : ℕ) (c : Command) (at : slice_ge
       subst (λ l. AreBlocks s 1 l (text ++ block)) (sym (first_and_next cs k c at))
       (blocks_push s 1 (take k cs) c text block are (subst (λ m. IsBlock s m c block) n is))
 
+  -- where k commands fit and the next does, one command more fit
   fit_next : AllFit (take k cs) → IsFitting c.subject → AllFit (take (k + 1) cs)
   fit_next all one =
       All-more (λ (e : Command). IsFitting e.subject) cs k c (slice_get_within cs k c at) all
       (subst (λ (e : Command). IsFitting e.subject) (sym (get_or_from_slice_get cs k c c at)) one)
 
+  -- what is too small among k commands is so among one more
   small_before : SomeIsSmall (take k cs) → SomeIsSmall (take (k + 1) cs)
   small_before (e, there, small) =
       (e, subst (λ l. Contains l e) (sym (first_and_next cs k c at)) (Contains-append_left (take k cs) (c ∷ []) e there), small)
 
+  -- and where the next command is too small, one among these is
   small_here : IsSmall c.subject → SomeIsSmall (take (k + 1) cs)
   small_here small = (c, subst (λ l. Contains l c) (sym (first_and_next cs k c at)) (Contains-push (take k cs) c), small)
 

@@ -42,6 +42,7 @@ refused_of bytes f e = go (script_of bytes) e
     go (Err g) h = let e : g ≡ f = cc (h) in ap (λ x. Err x) e
 
 module _ (bytes : List ℕ) (few : length bytes ≤ max_script) where
+  -- a refusal that holds of the bytes, and of every tree they might be a script of, is what is due for them
   pub refused : (line column : ℕ) (kind : ReadKind) (text : List ℕ) → text ≡ refusal_line line column kind →
       Refuses bytes (errors.At line column kind) (asked_by bytes) → ((t : Tree) → IsScript bytes t → Refuses bytes (errors.At line column kind) (Ok (meaning t))) → SolveDue bytes Input text []
   refused line column kind text spelled (f, is, at) only = (
@@ -112,6 +113,7 @@ told_of input Usage text proof d = tt
 
 -- ---- what is due for a request
 module _ {S : Type 0} (left : S → Option (List ℕ)) (before now : S) where
+  -- more bytes than a script may have are refused by the line for them
   pub too_long : (bytes : List ℕ) × Gave (left before) (left now) max_script bytes × (max_script < length bytes) → Served left solve before now Input too_long_line []
   too_long m = record { input = m.0; reads = m.1; is_due = (inl (record { many = m.2; spelled = refl }), refl) }
 
@@ -143,6 +145,7 @@ built_due bytes input text proof tree same is built (inr unbuilt) =
 
 -- a script is answered where there was no fault
 module _ {S K C : Type 0} (left : S → Option (List ℕ)) (out : K → Option (List ℕ)) (cert : C → Option (List ℕ)) (R : Type 0) (s s' : S) (r r' : ℕ) (k k' : K) (f f' : ℕ) (c c' : C) (h h' : ℕ) where
+  -- where no count of faults rose, a script within the limits ends with Fits or TooSmall, or memory wanted
   pub complete_of : (status : Status) → Ends out cert (Served left solve s s') R r r' k k' f f' c c' h h' status →
       (input : List ℕ) (tree : Tree) → left s ≡ Some input → length input ≤ max_script → IsScript input tree → AllBuilt (meaning tree).commands →
       (Rose r r' → ⊥) → (Rose f f' ⊎ Rose h h' → ⊥) → IsSolved status

@@ -81,6 +81,7 @@ module _ {K C : Type 0} (out : K → Option (List ℕ)) (cert : C → Option (Li
   })
 
 module _ (D : Status → List ℕ → List ℕ → Type 0) (status result : Status) (text : List ℕ) (before now cert : Option (List ℕ)) (faults_before faults_now : ℕ) where
+  -- where the text was written whole, the sink gained what is due
   pub written_of : D status text [] → Wrote status text before now faults_before faults_now result → OnAnswer result ((t p : List ℕ) × D result t p × Appends before now t × Appends cert cert p)
   written_of d w =
       ⊎_elim
@@ -88,6 +89,7 @@ module _ (D : Status → List ℕ → List ℕ → Type 0) (status result : Stat
       (λ err. subst (λ s. OnAnswer s ((t p : List ℕ) × D s t p × Appends before now t × Appends cert cert p)) (sym err.0) tt)
       w
 
+  -- and where it was cut off by a fault, the beginning of what was due
   pub cut_of : D status text [] → Wrote status text before now faults_before faults_now result → result ≡ WriteFault → (s : Status) × (t p : List ℕ) × (n : ℕ) × D s t p × Appends before now (take n t) × Appends cert cert p
   cut_of d w is =
       ⊎_elim

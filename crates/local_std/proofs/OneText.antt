@@ -66,5 +66,6 @@ one_blocks s index [] text other x y = x ∙ sym y
 one_blocks s index (c ∷ cs) text other (f, r, b, bs, e) (g, q, d, ds, h) =
     e ∙ ap (λ z. z ++ r) (one_block s index c f g b d) ∙ ap (λ z. g ++ z) (one_blocks s (index + 1) cs r q bs ds) ∙ sym h
 
+-- and so a script has at most one text
 pub one_text : (s : Script) (text other : List ℕ) → IsAnswer s text → IsAnswer s other → text ≡ other
 one_text s text other x y = one_blocks s 1 s.commands text other x y

@@ -4,9 +4,11 @@ use Rattle.std.specs.Prelude.{All}
 use Rattle.sparse_poly.specs.Poly.{Poly, Polynomial, IsCanonical}
 use Rattle.sparse_poly.specs.Ideal.{Problem, IsReducedBasis, IsStaircase}
 
+-- the polynomials' lists of terms
 abbrev pub terms_of : List Polynomial → List Poly
 terms_of fs = map (λ f. f.terms) fs
 
+-- the list of terms at a place is that of the polynomial at the place
 terms_at : (fs : List Polynomial) (k : ℕ) (d : Polynomial) (g : Poly) → k < length fs → (get_or (terms_of fs) k g ≡ (get_or fs k d).terms) × (k < length (terms_of fs))
 terms_at [] k d g l = absurd (omega arith)
 terms_at (f ∷ fs) zero d g l = (refl, omega arith)

@@ -54,6 +54,7 @@ length-of_ranks : (n d r k : ℕ) → length (of_ranks n d r k) ≡ k
 length-of_ranks n d r zero = refl
 length-of_ranks n d r (suc k) = ap suc (length-of_ranks n d (suc r) k)
 
+-- its member at place j is the monomial whose rank is j more than that of the first
 of_ranks-at : (n d r k j : ℕ) → j < k → mono_at (of_ranks n d r k) j ≡ mono_of_rank n d (r + j)
 of_ranks-at n d r zero j l = absurd (omega arith)
 of_ranks-at n d r (suc k) zero l = ap (mono_of_rank n d) (let e : r ≡ r + 0 = omega arith in e)

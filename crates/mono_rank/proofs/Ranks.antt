@@ -76,6 +76,7 @@ rank_low n d m e l =
       length-monomials n d,
     )
 
+-- a rank is less than the number of the monomials
 pub rank_small : (n d : ℕ) (m : List ℕ) (r : ℕ) → HasRank n d m r → r < monomial_count n d
 rank_small n d m r h = omega (arith, rank_low n d m h.in_ring h.low, h.rank)
 

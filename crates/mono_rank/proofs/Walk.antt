@@ -92,6 +92,7 @@ abbrev pub walk : ℕ → ℕ → List ℕ
 walk n zero = mono_one n
 walk n (suc r) = next (walk n r)
 
+-- it has n exponents
 pub length-walk : (n r : ℕ) → 1 ≤ n → length (walk n r) ≡ n
 length-walk n zero l = let z : ℕ = 0 in length-replicate n z
 length-walk n (suc r) l = length-next (walk n r) (omega (arith, length-walk n r l)) ∙ length-walk n r l

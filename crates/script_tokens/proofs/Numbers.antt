@@ -29,12 +29,15 @@ at_most_some-by : (limit n x : ℕ) (b : Bool) → cond b None (Some n) ≡ Some
 at_most_some-by limit n x true e = absurd cc
 at_most_some-by limit n x false e = cc
 
+-- a number that is let through is the number itself
 pub at_most_some : (limit n x : ℕ) → at_most limit n ≡ Some x → n ≡ x
 at_most_some limit n x e = at_most_some-by limit n x (nat_lt limit n) e
 
+-- a number that is stopped is above the limit, told by the test
 at_most_none-by : (limit n : ℕ) (b : Bool) → nat_lt limit n ≡ b → cond b None (Some n) ≡ None → limit < n
 at_most_none-by limit n true h e = ltb-true limit n h
 at_most_none-by limit n false h e = absurd cc
 
+-- a number that is stopped is above the limit
 pub at_most_none : (limit n : ℕ) → at_most limit n ≡ None → limit < n
 at_most_none limit n e = at_most_none-by limit n (nat_lt limit n) refl e

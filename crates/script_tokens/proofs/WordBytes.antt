@@ -9,9 +9,11 @@ use Rattle.std.specs.Prelude.{All}
 use Rattle.std.specs.Str.{IsAscii}
 use Rattle.script_grammar.specs.Tokens.{is_word_byte, word_len}
 
+-- a byte of a word is below 128
 below_128 : (b : ℕ) → is_word_byte b ≡ true → b < 128
 below_128 b h = grind (arith, nat_tests)
 
+-- and so are all that a word takes
 all_below_128 : (bytes : List ℕ) → All (λ b. b < 128) (take (word_len bytes) bytes)
 unfolding word_len
 all_below_128 [] = All-nil (λ b. b < 128)

@@ -29,6 +29,7 @@ in_rest x y xs (k, l, e) = (suc k, omega arith, e)
 abbrev IsMultipleOf : ℕ → ℕ → ℕ → List ℕ → Type 0
 IsMultipleOf n d l m = (k : List ℕ) × HasRank n d k l × Divides k m
 
+-- a lead divides a monomial or not
 one_decided : (n d l : ℕ) (m : List ℕ) → 1 ≤ n → length m ≡ n → IsMultipleOf n d l m ⊎ (¬ IsMultipleOf n d l m)
 one_decided n d l m some e = go (cases_lt l (monomial_count n d))
   where

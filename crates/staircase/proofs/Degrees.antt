@@ -26,6 +26,7 @@ of_degree n e r t =
     let parts = and_parts (leb (fewer n e) r) (ltb r (fewer n (suc e))) t in
     (leb-true (fewer n e) r parts.0, ltb-true r (fewer n (suc e)) parts.1)
 
+-- and a rank between these two numbers passes it
 is_then : (n e r : ℕ) → fewer n e ≤ r → r < fewer n (suc e) → IsTrue (is_of_degree n e r)
 is_then n e r l m = and_from (leb (fewer n e) r) (ltb r (fewer n (suc e))) (le-leb (fewer n e) r l) (lt-ltb r (fewer n (suc e)) m)
 
