@@ -1,6 +1,6 @@
 -- A step sees residues alone: from vectors that agree it ends in the same way, with vectors that agree.
 -- Leads and ecarts are the same, so are the choices, and inverses of one residue are one residue.
-use Rattle.std.proofs.Common.{ℕ, zero, suc, ◌+◌, ◌*◌, ◌-◌, ◌<◌, ◌≤◌, ◌≡◌, max, List, [], ◌∷◌, ◌++◌, Bool, true, false, cond, eqb, ltb, leb, Option, Some, None, refl, ◌∙◌, ap, ap₂, subst, arith}
+use Rattle.std.proofs.Common.{ℕ, zero, suc, ◌+◌, ◌*◌, ◌-◌, ◌<◌, ◌≤◌, ◌≡◌, max, List, [], ◌∷◌, ◌++◌, Bool, true, false, cond, eqb, ltb, leb, Option, Some, None, refl, ap, ap₂, subst, arith}
 use Rattle.std.specs.Prelude.{not, fold, option_map, unwrap_or}
 use Rattle.rank_algebra.specs.Ranks.{Ranks, IsRanks}
 use Rattle.entry_code.specs.declared.reading.Reading.{Reading}

@@ -1,13 +1,12 @@
--- Linear combinations of rows, and rows in echelon form.
--- The ideal is in the span of the monomial multiples, and the leads of echelon rows are all leads of their span.
+-- Linear combinations of rows.
+-- Spans are closed under sums and multiples, so the ideal is in the span of the monomial multiples of its generators.
 use Rattle.std.proofs.Common.{◌≡◌, ℕ, zero, suc, ◌+◌, ◌*◌, ◌%◌, ◌<◌, ◌≤◌, ◌≢◌, ◌⊎◌, List, [], ◌∷◌, ◌++◌, length, Bool, true, false, cond, refl, ap, sym, ◌∙◌, inl, inr, ⊎_elim, subst, arith, mul-zero}
-use Rattle.std.proofs.Math.Nat.{zero-mod, mul-one, mod-mod}
+use Rattle.std.proofs.Math.Nat.{mul-one}
 use Rattle.std.proofs.lemmas.Bool.{cases_lt}
 use Rattle.local_order.specs.Mono.{degree, mono_times, same, Divides}
-use Rattle.local_order.specs.Order.{IsAbove}
-use Rattle.local_order.proofs.Order.{degree-mono_times, divides_cases, above_cases}
-use Rattle.prime_field.proofs.Residue.{add_same, mul_same}
-use Rattle.sparse_poly.specs.Poly.{Poly, total, coef, IsIn, term_times, times, combination, IsLead}
+use Rattle.local_order.proofs.Order.{degree-mono_times, divides_cases}
+use Rattle.prime_field.proofs.Residue.{mul_same}
+use Rattle.sparse_poly.specs.Poly.{Poly, total, coef, IsIn, term_times, times, combination}
 use Rattle.sparse_poly.specs.Ideal.{Problem, IsInIdeal}
 pub use Rattle.sparse_poly.specs.Span.{scale, linear, Span}
 use Rattle.sparse_poly.proofs.Coef.{total-append, total-shift_off, term_times-term_times}
@@ -121,36 +120,6 @@ span-here P r rows = record {
     first zero = 1
     first (suc i) = 0
 
--- every row of A is in the span of B
-abbrev pub AllSpan : Problem → List Poly → List Poly → Type 0
-AllSpan P B [] = Unit {0}
-AllSpan P B (a ∷ A) = Span P B a × AllSpan P B A
-
--- combinations of what is in a span are in it
-span-linear : (P : Problem) (B A : List Poly) (c : ℕ → ℕ) → AllSpan P B A → Span P B (linear c A)
-span-linear P B [] c h = span-zero P B [] (λ m l low. refl)
-span-linear P B (a ∷ A) c h =
-    span-add P B (scale (c 0) a) (linear (λ i. c (suc i)) A) (span-scale P B (c 0) a h.0) (span-linear P B A (λ i. c (suc i)) h.1)
-
--- the span of rows in a span is in it
-pub span-trans : (P : Problem) (A B : List Poly) (g : Poly) → AllSpan P B A → Span P A g → Span P B g
-span-trans P A B g h s = span-agree P B (linear s.factor A) g s.equation (span-linear P B A s.factor h)
-
--- rows in a span are in the span with another row
-pub all-weaken : (P : Problem) (r : Poly) (B A : List Poly) → AllSpan P B A → AllSpan P (r ∷ B) A
-all-weaken P r B [] h = tt
-all-weaken P r B (a ∷ A) h = (span-weaken P r B a h.0, all-weaken P r B A h.1)
-
--- rows are in their own span
-pub all-self : (P : Problem) (A : List Poly) → AllSpan P A A
-all-self P [] = tt
-all-self P (a ∷ A) = (span-here P a A, all-weaken P a A A (all-self P A))
-
--- rows in the span of rows in a span are in it
-pub all-trans : (P : Problem) (A B C : List Poly) → AllSpan P C B → AllSpan P B A → AllSpan P C A
-all-trans P [] B C h k = tt
-all-trans P (a ∷ A) B C h k = (span-trans P B C a h k.0, all-trans P A B C h k.1)
-
 -- ---- the ideal is the span of the multiples of its generators
 -- each multiple of f by a monomial of degree at most d is in the span
 abbrev pub Multiples : Problem → List Poly → Poly → Type 0
@@ -199,96 +168,3 @@ pub span_of_in : (P : Problem) (rows : List Poly) (g : Poly) → AllIn P.n P.gen
 span_of_in P rows g j h member =
     span-agree P rows (combination member.cofactor P.gens) g (agree P g _ member.equation)
     (span-combination P rows member.cofactor P.gens member.in_ring j h)
-
--- ---- echelon form
--- f is 0 at m and above it
-abbrev pub IsZeroFrom : Problem → List ℕ → Poly → Type 0
-IsZeroFrom P m f = (k : List ℕ) → length k ≡ P.n → (k ≡ m) ⊎ IsAbove k m → coef P.p f k ≡ 0
-
--- so for each polynomial of a list
-abbrev pub AllZeroFrom : Problem → List ℕ → List Poly → Type 0
-AllZeroFrom P m [] = Unit {0}
-AllZeroFrom P m (f ∷ fs) = IsZeroFrom P m f × AllZeroFrom P m fs
-
--- the lead of f is m, with coefficient 1
-pub record IsMonic (P : Problem) (f : Poly) (m : List ℕ) : Type 0 where
-  pub in_ring : length m ≡ P.n
-  pub low : degree m ≤ P.d
-  pub one : coef P.p f m ≡ 1
-  pub above : (k : List ℕ) → length k ≡ P.n → IsAbove k m → coef P.p f k ≡ 0
-
--- the rows have these leads, each with coefficient 1, and each row is 0 at the leads before its own
-abbrev pub IsEchelon : Problem → List Poly → List (List ℕ) → Type 0
-IsEchelon P [] [] = Unit {0}
-IsEchelon P [] (m ∷ ms) = ⊥
-IsEchelon P (f ∷ fs) [] = ⊥
-IsEchelon P (f ∷ fs) (m ∷ ms) = IsMonic P f m × AllZeroFrom P m fs × IsEchelon P fs ms
-
--- m stands in the list
-abbrev pub Stands : List ℕ → List (List ℕ) → Type 0
-Stands m [] = ⊥
-Stands m (k ∷ ks) = (m ≡ k) ⊎ Stands m ks
-
--- multiples keep the zeros
-coef-scale_zero : (p c : ℕ) (f : Poly) (m : List ℕ) → coef p f m ≡ 0 → coef p (scale c f) m ≡ 0
-coef-scale_zero p c f m e =
-    ap (λ x. x % p) (total-scale c f m) ∙ mul_same p c c (total f m) 0 refl (e ∙ sym (zero-mod p)) ∙ ap (λ x. x % p) (mul-zero c) ∙ zero-mod p
-
--- so do combinations
-linear-zero_from : (P : Problem) (m : List ℕ) (c : ℕ → ℕ) (fs : List Poly) → AllZeroFrom P m fs → IsZeroFrom P m (linear c fs)
-linear-zero_from P m c [] h k l w = zero-mod P.p
-linear-zero_from P m c (f ∷ fs) h k l w =
-    ap (λ x. x % P.p) (total-append (scale (c 0) f) (linear (λ i. c (suc i)) fs) k)
-    ∙ add_same P.p (total (scale (c 0) f) k) 0 (total (linear (λ i. c (suc i)) fs) k) 0
-    (coef-scale_zero P.p (c 0) f k (h.0 k l w) ∙ sym (zero-mod P.p))
-    (linear-zero_from P m (λ i. c (suc i)) fs h.1 k l w ∙ sym (zero-mod P.p))
-    ∙ zero-mod P.p
-
--- the coefficient of a combination at the first lead is the first factor
-first_coef : (P : Problem) (f : Poly) (m : List ℕ) (c : ℕ) (rest : Poly) → IsMonic P f m → IsZeroFrom P m rest →
-    coef P.p (scale c f ++ rest) m ≡ c % P.p
-first_coef P f m c rest h z =
-    ap (λ x. x % P.p) (total-append (scale c f) rest m ∙ ap (λ x. x + total rest m) (total-scale c f m))
-    ∙ add_same P.p (c * total f m) (c * (total f m % P.p)) (total rest m) 0
-    (mul_same P.p c c (total f m) (total f m % P.p) refl (sym (mod-mod (total f m) P.p)))
-    (z m h.in_ring (inl refl) ∙ sym (zero-mod P.p))
-    ∙ ap (λ x. (c * x + 0) % P.p) h.one
-    ∙ ap (λ x. x % P.p) (let e : c * 1 + 0 ≡ c = omega arith in e)
-
--- a first factor that is 0 drops the first row
-drop_first : (P : Problem) (f : Poly) (c : ℕ) (rest : Poly) → c % P.p ≡ 0 → Agree P (scale c f ++ rest) rest
-drop_first P f c rest z m l low =
-    ap (λ x. x % P.p) (total-append (scale c f) rest m ∙ ap (λ x. x + total rest m) (total-scale c f m))
-    ∙ add_same P.p (c * total f m) (0 * total f m) (total rest m) (total rest m)
-    (mul_same P.p c 0 (total f m) (total f m) (z ∙ sym (zero-mod P.p)) refl) refl
-    ∙ ap (λ x. x % P.p) (let e : 0 * total f m + total rest m ≡ total rest m = omega arith in e)
-
--- a combination of rows in echelon form has its lead among theirs
-pub lead-stands : (P : Problem) (fs : List Poly) (ms : List (List ℕ)) (c : ℕ → ℕ) (g : Poly) (m : List ℕ) →
-    IsEchelon P fs ms → Agree P g (linear c fs) → degree m ≤ P.d → IsLead P.p P.n g m → Stands m ms
-lead-stands P [] [] c g m e s low h = h.there (s m h.in_ring low ∙ zero-mod P.p)
-lead-stands P [] (k ∷ ms) c g m e s low h = absurd e
-lead-stands P (f ∷ fs) [] c g m e s low h = absurd e
-lead-stands P (f ∷ fs) (k ∷ ms) c g m e s low h =
-    go (lead-stands P fs ms (λ i. c (suc i)) g m e.2) (above_cases m k (omega (arith, h.in_ring, e.0.in_ring)))
-  where
-    rest : Poly
-    rest = linear (λ i. c (suc i)) fs
-
-    zero_rest : IsZeroFrom P k rest
-    zero_rest = linear-zero_from P k (λ i. c (suc i)) fs e.1
-
-    go : (Agree P g rest → degree m ≤ P.d → IsLead P.p P.n g m → Stands m ms) → (m ≡ k) ⊎ (IsAbove m k ⊎ IsAbove k m) → (m ≡ k) ⊎ Stands m ms
-    go next (inl t) = inl t
-    go next (inr (inl w)) =
-        absurd (h.there
-        (s m h.in_ring low
-        ∙ ap (λ x. x % P.p) (total-append (scale (c 0) f) rest m)
-        ∙ add_same P.p (total (scale (c 0) f) m) 0 (total rest m) 0
-        (coef-scale_zero P.p (c 0) f m (e.0.above m h.in_ring w) ∙ sym (zero-mod P.p))
-        (zero_rest m h.in_ring (inr w) ∙ sym (zero-mod P.p))
-        ∙ zero-mod P.p))
-    go next (inr (inr w)) =
-        let none : c 0 % P.p ≡ 0 =
-        sym (first_coef P f k (c 0) rest e.0 zero_rest) ∙ sym (s k e.0.in_ring e.0.low) ∙ h.greatest k e.0.in_ring w in
-        inr (next (agree_trans P g _ rest s (drop_first P f (c 0) rest none)) low h)
