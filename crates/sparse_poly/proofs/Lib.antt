@@ -14,4 +14,10 @@ pub mod Derivatives
 pub mod Views
 pub mod Lists
 pub mod Distinct
+pub mod Falling
+pub mod Difference
+pub mod Leads
+pub mod Induction
+pub mod Terms
+pub mod Descent
 pub mod Examples

@@ -62,6 +62,10 @@ abbrev pub times : Poly → Poly → Poly
 times [] f = []
 times (t ∷ q) f = term_times t.coef t.mono f ++ times q f
 
+-- the polynomial m
+abbrev pub monomial : List ℕ → Poly
+monomial m = record { mono = m; coef = 1 } ∷ []
+
 -- the polynomial 1 in n variables
 abbrev pub one : ℕ → Poly
 one n = record { mono = mono_one n; coef = 1 } ∷ []

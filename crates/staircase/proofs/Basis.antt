@@ -9,9 +9,9 @@ use Rattle.sparse_poly.specs.Canonical.{canonical}
 use Rattle.sparse_poly.specs.Ideal.{Problem, IsLeadOfIdeal, IsReducedMember, IsReducedBasis, lead_of, leads_of}
 use Rattle.sparse_poly.proofs.Canonical.{coef-canonical, IsCanonical-canonical}
 use Rattle.sparse_poly.proofs.Unique.{in_of_canonical, canonical_unique, same_total, IsLead-canonical}
-use Rattle.staircase.proofs.Difference.{difference, in-difference, coef-difference, same_from_difference, IsInIdeal-difference}
-use Rattle.staircase.proofs.Falling.{Among, among_of_contains, contains_of_among, falling_same}
-use Rattle.staircase.proofs.Leads.{IsLeadOfIdeal-member}
+use Rattle.sparse_poly.proofs.Difference.{difference, in-difference, coef-difference, same_from_difference, IsInIdeal-difference}
+use Rattle.sparse_poly.proofs.Falling.{Among, among_of_contains, contains_of_among, falling_same}
+use Rattle.sparse_poly.proofs.Leads.{IsLeadOfIdeal-member}
 
 -- a member has a coefficient below p, so p isn't 0
 positive : (P : Problem) (g : Poly) → IsReducedMember P g → 0 < P.p

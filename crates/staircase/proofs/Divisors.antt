@@ -9,8 +9,8 @@ use Rattle.local_order.proofs.Order.{degree-mono_times, length-mono_times, mono_
 use Rattle.sparse_poly.specs.Ideal.{Problem, IsLeadOfIdeal, IsMinimalLead, IsStaircase, Fits, IsReducedBasis, leads_of}
 use Rattle.sparse_poly.specs.Poly.{Poly}
 use Rattle.sparse_poly.proofs.Member.{AllIn}
-use Rattle.staircase.proofs.Falling.{Among, among_of_contains, contains_of_among}
-use Rattle.staircase.proofs.Leads.{multiple_of_lead}
+use Rattle.sparse_poly.proofs.Falling.{Among, among_of_contains, contains_of_among}
+use Rattle.sparse_poly.proofs.Leads.{multiple_of_lead}
 
 -- ---- division
 -- a monomial divides itself

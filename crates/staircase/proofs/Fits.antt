@@ -5,11 +5,11 @@ use Rattle.prime_field.specs.Prime.{IsPrime}
 use Rattle.local_order.specs.Mono.{degree}
 use Rattle.local_order.proofs.Order.{degree_of_above}
 use Rattle.sparse_poly.specs.Ideal.{Problem, IsInIdeal, IsLeadOfIdeal, Fits, IsFirstMissing}
-use Rattle.staircase.specs.Monomial.{monomial}
-use Rattle.staircase.proofs.Descent.{from_lead}
-use Rattle.staircase.proofs.Leads.{IsLeadOfIdeal-member}
-use Rattle.staircase.proofs.Induction.{falling_induction}
-use Rattle.staircase.proofs.Terms.{IsLead-monomial, IsClosed-ideal}
+use Rattle.sparse_poly.specs.Poly.{monomial}
+use Rattle.sparse_poly.proofs.Descent.{from_lead}
+use Rattle.sparse_poly.proofs.Leads.{IsLeadOfIdeal-member}
+use Rattle.sparse_poly.proofs.Induction.{falling_induction}
+use Rattle.sparse_poly.proofs.Terms.{IsLead-monomial, IsClosed-ideal}
 
 module _ (P : Problem) (prime : IsPrime P.p) where
   -- each monomial of degree d is in the ideal where each has lead

@@ -18,15 +18,15 @@ use Rattle.sparse_poly.proofs.Closure.{IsInIdeal-scale}
 use Rattle.sparse_poly.proofs.Scaling.{in-scale}
 use Rattle.sparse_poly.proofs.Span.{scale, total-scale}
 use Rattle.sparse_poly.proofs.Unique.{IsLead-canonical}
-use Rattle.staircase.specs.Monomial.{monomial}
+use Rattle.sparse_poly.specs.Poly.{monomial}
 use Rattle.staircase.specs.Quotient.{IsMadeOf, HasRemainder}
-use Rattle.staircase.proofs.Descent.{coef-scale_zero, from_lead}
-use Rattle.staircase.proofs.Difference.{difference, difference-sum}
+use Rattle.sparse_poly.proofs.Descent.{coef-scale_zero, from_lead}
+use Rattle.sparse_poly.proofs.Difference.{difference, difference-sum}
 use Rattle.staircase.proofs.Divisors.{basis_cases, lead_of_divided, staircase_by_basis}
-use Rattle.staircase.proofs.Falling.{among_of_contains}
-use Rattle.staircase.proofs.Leads.{IsLeadOfIdeal-member}
-use Rattle.staircase.proofs.Induction.{falling_induction}
-use Rattle.staircase.proofs.Terms.{IsClosed, by_monomials}
+use Rattle.sparse_poly.proofs.Falling.{among_of_contains}
+use Rattle.sparse_poly.proofs.Leads.{IsLeadOfIdeal-member}
+use Rattle.sparse_poly.proofs.Induction.{falling_induction}
+use Rattle.sparse_poly.proofs.Terms.{IsClosed, by_monomials}
 
 -- ---- independence
 -- a member of the ideal that is made of monomials of the staircase is 0 up to the degree

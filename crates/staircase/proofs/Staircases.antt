@@ -6,7 +6,7 @@ use Rattle.local_order.specs.Mono.{degree}
 use Rattle.local_order.specs.Order.{IsAbove}
 use Rattle.local_order.proofs.Order.{above_cases}
 use Rattle.sparse_poly.specs.Ideal.{Problem, IsStaircase, Fits, IsFirstMissing}
-use Rattle.staircase.proofs.Falling.{Among, among_of_contains, contains_of_among, falling_same}
+use Rattle.sparse_poly.proofs.Falling.{Among, among_of_contains, contains_of_among, falling_same}
 
 -- each monomial of one staircase is in the other
 over : (P : Problem) (s t : List (List ℕ)) → IsStaircase P s → IsStaircase P t → (m : List ℕ) → Among s m → Among t m

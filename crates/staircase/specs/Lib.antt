@@ -1,3 +1,2 @@
-pub mod Monomial
 pub mod Quotient
 pub mod Stair

@@ -10,7 +10,7 @@ ghost use Rattle.sparse_poly.specs.Span.{Agree};
 ghost use Rattle.mono_rank.specs.Rank.{HasRank, mono_of_rank};
 ghost use Rattle.mono_rank.specs.Cover.{IsCorner};
 ghost use Rattle.staircase.specs.Stair.{IsStairOf, is_of_degree, IsLeastOfDegree, ShowLeads};
-ghost use Rattle.staircase.specs.Monomial.{monomial};
+ghost use Rattle.sparse_poly.specs.Poly.{monomial};
 ghost use Rattle.staircase.specs.Quotient.{IsMadeOf, HasRemainder};
 
 /// A problem has at most one reduced standard basis, one staircase and one first missing monomial.

@@ -1,5 +1,5 @@
 use Rattle.sparse_poly.proofs.Closure.{AllIn-from_All}
-use Rattle.staircase.proofs.Leads.{multiple_of_lead, divisor_in_staircase}
+use Rattle.sparse_poly.proofs.Leads.{multiple_of_lead, divisor_in_staircase}
 use Rattle.staircase.proofs.laws.leads_are_closed.Goals as goal
 
 pub returns-clause-multiples : goal.returns-clause-multiples

@@ -14,10 +14,10 @@ use Rattle.sparse_poly.specs.Ideal.{Problem, IsLeadOfIdeal}
 use Rattle.sparse_poly.proofs.Closure.{IsInIdeal-scale}
 use Rattle.sparse_poly.proofs.Scaling.{in-scale}
 use Rattle.sparse_poly.proofs.Span.{scale, total-scale}
-use Rattle.staircase.specs.Monomial.{monomial}
-use Rattle.staircase.proofs.Difference.{difference, in-difference, coef-difference, coef-difference_back}
-use Rattle.staircase.proofs.Leads.{lead_there, lead_greatest}
-use Rattle.staircase.proofs.Terms.{coef-monomial, coef-monomial_above, IsClosed, by_monomials}
+use Rattle.sparse_poly.specs.Poly.{monomial}
+use Rattle.sparse_poly.proofs.Difference.{difference, in-difference, coef-difference, coef-difference_back}
+use Rattle.sparse_poly.proofs.Leads.{lead_there, lead_greatest}
+use Rattle.sparse_poly.proofs.Terms.{coef-monomial, coef-monomial_above, IsClosed, by_monomials}
 
 -- a multiple of what is 0 at a monomial is 0 there
 pub coef-scale_zero : (p c : ℕ) (f : Poly) (m : List ℕ) → coef p f m ≡ 0 → coef p (scale c f) m ≡ 0

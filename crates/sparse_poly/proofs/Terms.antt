@@ -16,7 +16,7 @@ use Rattle.sparse_poly.proofs.Cuts.{in-cut}
 use Rattle.sparse_poly.proofs.Member.{Agree, IsInIdeal-zero, IsInIdeal-add, IsInIdeal-agree}
 use Rattle.sparse_poly.proofs.Span.{scale}
 use Rattle.sparse_poly.proofs.Unique.{total-above, IsLead-canonical}
-use Rattle.staircase.specs.Monomial.{monomial}
+use Rattle.sparse_poly.specs.Poly.{monomial}
 
 -- ---- one monomial
 -- its coefficient is 1

@@ -6,7 +6,7 @@ use Rattle.local_order.specs.Order.{IsAbove, above}
 use Rattle.local_order.specs.Count.{monomials}
 use Rattle.local_order.proofs.Order.{above_irrefl, above_trans, above-true, above-intro}
 use Rattle.local_order.proofs.Listing.{in_monomials}
-use Rattle.staircase.proofs.Falling.{Among, among_of_contains}
+use Rattle.sparse_poly.proofs.Falling.{Among, among_of_contains}
 
 -- how many of a list are above m
 abbrev number_above : List (List ℕ) → List ℕ → ℕ
