@@ -1,69 +1,84 @@
 -- The first member of least ecart among those that reduce.
--- It is found member by member: the next one takes its place only where its ecart is less.
-use Rattle.std.proofs.Common.{◌≡◌, ℕ, ◌+◌, ◌<◌, ◌≤◌, ◌⊎◌, List, length, Option, Some, None, Bool, true, false, cond, leb, inl, inr, refl, subst, arith}
-use Rattle.std.proofs.lemmas.Bool.{cases_lt, leb-true, leb-false}
+-- It is found from the end on: a member takes the place of the one found behind it where its ecart is at most as great.
+use Rattle.std.proofs.Common.{◌≡◌, ℕ, ◌+◌, ◌<◌, ◌≤◌, ◌⊎◌, List, length, Option, Some, None, inl, inr, ap, subst, arith}
+use Rattle.std.proofs.lemmas.Bool.{cases_lt}
 use Rattle.ecart.specs.declared.summary.Summary.{Summary}
-use Rattle.ecart.specs.Choice.{Reduces, ecart_at, IsLeast, IsLeastAmong, IsPlace, lesser_of}
+use Rattle.ecart.specs.Choice.{Reduces, ecart_at, IsFirstLeast, IsPlace, HasNoGreaterEcart}
+
+-- the first member of least ecart among those from place `start` on that reduce is at place i
+pub record LeastFrom (n d : ℕ) (list : List Summary) (r start i : ℕ) : Type 0 where
+  pub from : start ≤ i
+  pub within : i < length list
+  pub reduces : Reduces n d list r i
+  pub least : (j : ℕ) → start ≤ j → j < length list → Reduces n d list r j → ecart_at list i ≤ ecart_at list j
+  pub first : (j : ℕ) → start ≤ j → j < i → Reduces n d list r j → ecart_at list i < ecart_at list j
+
+-- it is what was found, and nothing was where none reduces
+abbrev pub FoundFrom : ℕ → ℕ → List Summary → ℕ → ℕ → Option ℕ → Type 0
+FoundFrom n d list r start None = (j : ℕ) → start ≤ j → j < length list → Reduces n d list r j → ⊥
+FoundFrom n d list r start (Some i) = LeastFrom n d list r start i
 
 -- what was found is a place of the list
-pub place_of : (n d : ℕ) (list : List Summary) (r count : ℕ) (best : Option ℕ) → IsLeastAmong n d list r count best → count ≤ length list → IsPlace list best
-place_of n d list r count None h l = tt
-place_of n d list r count (Some i) h l = omega (arith, h.within, l)
+pub place_of : (n d : ℕ) (list : List Summary) (r start : ℕ) (best : Option ℕ) → FoundFrom n d list r start best → IsPlace list best
+place_of n d list r start None h = tt
+place_of n d list r start (Some i) h = h.within
 
--- a member that doesn't reduce changes nothing
-pub least_skip : (n d : ℕ) (list : List Summary) (r i : ℕ) (best : Option ℕ) → IsLeastAmong n d list r i best → (Reduces n d list r i → ⊥) → IsLeastAmong n d list r (i + 1) best
-least_skip n d list r i None h none = λ j l w. go j w (cases_lt j i) l
-  where
-    go : (j : ℕ) → Reduces n d list r j → (j < i) ⊎ (i ≤ j) → j < i + 1 → ⊥
-    go j w (inl m) l = h j m w
-    go j w (inr m) l = let e : j ≡ i = omega arith in none (subst (Reduces n d list r) e w)
-least_skip n d list r i (Some b) h none = record {
-  within = omega (arith, h.within);
+-- what was found from the first place on is the first of least ecart
+pub found_all : (n d : ℕ) (list : List Summary) (r : ℕ) (best : Option ℕ) → FoundFrom n d list r 0 best → IsFirstLeast n d list r best
+found_all n d list r None h = λ j l w. h j (omega arith) l w
+found_all n d list r (Some i) h = record {
+  within = h.within;
   reduces = h.reduces;
-  least = λ j l w. go j w (cases_lt j i) l;
-  first = h.first;
+  least = λ j l w. h.least j (omega arith) l w;
+  first = λ j l w. h.first j (omega arith) l w;
+}
+
+-- a member that reduces and has no greater ecart than what was found behind it is found
+pub found_next : (n d : ℕ) (list : List Summary) (r i : ℕ) (best : Option ℕ) → FoundFrom n d list r (i + 1) best → i < length list
+    → HasNoGreaterEcart list i best → Reduces n d list r i → FoundFrom n d list r i (Some i)
+found_next n d list r i best h l e w = record {
+  from = omega arith;
+  within = l;
+  reduces = w;
+  least = λ j f m v. go j v f m (cases_lt i j);
+  first = λ j f m v. absurd (omega (arith, f, m));
 }
   where
-    go : (j : ℕ) → Reduces n d list r j → (j < i) ⊎ (i ≤ j) → j < i + 1 → ecart_at list b ≤ ecart_at list j
-    go j w (inl m) l = h.least j m w
-    go j w (inr m) l = let e : j ≡ i = omega arith in absurd (none (subst (Reduces n d list r) e w))
+    behind : (best : Option ℕ) → FoundFrom n d list r (i + 1) best → HasNoGreaterEcart list i best → (j : ℕ) → i < j → j < length list → Reduces n d list r j → ecart_at list i ≤ ecart_at list j
+    behind None h e j f m v = absurd (h j (omega arith) m v)
+    behind (Some b) h e j f m v = omega (arith, e, h.least j (omega arith) m v)
 
--- the next member that reduces is taken where its ecart is less
-least_next : (n d : ℕ) (list : List Summary) (r i b : ℕ) → IsLeast n d list r i b → Reduces n d list r i → (t : Bool) → leb (ecart_at list b) (ecart_at list i) ≡ t → IsLeast n d list r (i + 1) (cond t b i)
-least_next n d list r i b h w true e = record {
-  within = omega (arith, h.within);
+    go : (j : ℕ) → Reduces n d list r j → i ≤ j → j < length list → (i < j) ⊎ (j ≤ i) → ecart_at list i ≤ ecart_at list j
+    go j v f m (inl b) = behind best h e j b m v
+    go j v f m (inr b) = let q : i ≡ j = omega arith in subst (λ k. ecart_at list i ≤ ecart_at list k) q (omega arith)
+
+-- a member that doesn't reduce, or has a greater ecart than what was found behind it, changes nothing
+pub found_before : (n d : ℕ) (list : List Summary) (r i : ℕ) (best : Option ℕ) → FoundFrom n d list r (i + 1) best
+    → (HasNoGreaterEcart list i best → Reduces n d list r i → ⊥) → FoundFrom n d list r i best
+found_before n d list r i None h none = λ j f l w. go j w l f (cases_lt i j)
+  where
+    go : (j : ℕ) → Reduces n d list r j → j < length list → i ≤ j → (i < j) ⊎ (j ≤ i) → ⊥
+    go j w l f (inl m) = h j (omega arith) l w
+    go j w l f (inr m) = let q : j ≡ i = omega arith in none tt (subst (Reduces n d list r) q w)
+found_before n d list r i (Some b) h none = record {
+  from = omega (arith, h.from);
+  within = h.within;
   reduces = h.reduces;
-  least = λ j l v. go j v (cases_lt j i) l;
-  first = h.first;
+  least = λ j f l w. less j w l f (cases_lt i j);
+  first = λ j f l w. go j w l f (cases_lt i j);
 }
   where
-    go : (j : ℕ) → Reduces n d list r j → (j < i) ⊎ (i ≤ j) → j < i + 1 → ecart_at list b ≤ ecart_at list j
-    go j v (inl m) l = h.least j m v
-    go j v (inr m) l = let q : i ≡ j = omega arith in subst (λ k. ecart_at list b ≤ ecart_at list k) q (leb-true (ecart_at list b) (ecart_at list i) e)
-least_next n d list r i b h w false e = record {
-  within = omega arith;
-  reduces = w;
-  least = λ j l v. go j v (cases_lt j i) l;
-  first = λ j l v. omega (arith, less, h.least j l v);
-}
-  where
-    less : ecart_at list i < ecart_at list b
-    less = leb-false (ecart_at list b) (ecart_at list i) e
+    greater : Reduces n d list r i → ecart_at list b < ecart_at list i
+    greater w = at (cases_lt (ecart_at list b) (ecart_at list i))
+      where
+        at : (ecart_at list b < ecart_at list i) ⊎ (ecart_at list i ≤ ecart_at list b) → ecart_at list b < ecart_at list i
+        at (inl m) = m
+        at (inr m) = absurd (none m w)
 
-    go : (j : ℕ) → Reduces n d list r j → (j < i) ⊎ (i ≤ j) → j < i + 1 → ecart_at list i ≤ ecart_at list j
-    go j v (inl m) l = omega (arith, less, h.least j m v)
-    go j v (inr m) l = let q : i ≡ j = omega arith in subst (λ k. ecart_at list i ≤ ecart_at list k) q (omega arith)
+    less : (j : ℕ) → Reduces n d list r j → j < length list → i ≤ j → (i < j) ⊎ (j ≤ i) → ecart_at list b ≤ ecart_at list j
+    less j w l f (inl m) = h.least j (omega arith) l w
+    less j w l f (inr m) = let q : j ≡ i = omega arith in omega (arith, greater (subst (Reduces n d list r) q w), ap (ecart_at list) q)
 
--- the lesser of what was found and the next member that reduces is the first of least ecart
-pub least_more : (n d : ℕ) (list : List Summary) (r i : ℕ) (best : Option ℕ) → IsLeastAmong n d list r i best → Reduces n d list r i → IsLeastAmong n d list r (i + 1) (Some (lesser_of list best i))
-least_more n d list r i None h w = record {
-  within = omega arith;
-  reduces = w;
-  least = λ j l v. go j v (cases_lt j i) l;
-  first = λ j l v. absurd (h j l v);
-}
-  where
-    go : (j : ℕ) → Reduces n d list r j → (j < i) ⊎ (i ≤ j) → j < i + 1 → ecart_at list i ≤ ecart_at list j
-    go j v (inl m) l = absurd (h j m v)
-    go j v (inr m) l = let q : i ≡ j = omega arith in subst (λ k. ecart_at list i ≤ ecart_at list k) q (omega arith)
-least_more n d list r i (Some b) h w = least_next n d list r i b h w (leb (ecart_at list b) (ecart_at list i)) refl
+    go : (j : ℕ) → Reduces n d list r j → j < b → i ≤ j → (i < j) ⊎ (j ≤ i) → ecart_at list b < ecart_at list j
+    go j w l f (inl m) = h.first j (omega arith) l w
+    go j w l f (inr m) = let q : j ≡ i = omega arith in omega (arith, greater (subst (Reduces n d list r) q w), ap (ecart_at list) q)

@@ -71,6 +71,17 @@ impl Field {
         ((u64::from(a) * u64::from(b)) % u64::from(self.p)) as u32
     }
 
+    /// The sum of a residue and the product of two others, by one division.
+    pub fn add_product(&self, a: u32, b: u32, c: u32) -> u32
+        requires a_residue { a < self.now }
+        requires b_residue { b < self.now }
+        requires c_residue { c < self.now }
+        ensures value { result ≡ (a + b * c) % self.now }
+        ensures residue { result < self.now }
+    {
+        ((u64::from(a) + u64::from(b) * u64::from(c)) % u64::from(self.p)) as u32
+    }
+
     /// The residue whose sum with `a` is 0.
     pub fn neg(&self, a: u32) -> u32
         requires { a < self.now }

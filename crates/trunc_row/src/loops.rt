@@ -48,7 +48,7 @@ pub(crate) fn subtract(field: &Field, row: &mut [u32], c: u32, other: &[u32])
     let factor = field.neg(c);
     for k in 0..row.len() {
         if other[k] != 0 {
-            row[k] = field.add(row[k], field.mul(factor, other[k]));
+            row[k] = field.add_product(row[k], factor, other[k]);
         }
     }
 }
@@ -74,7 +74,7 @@ fn subtract_run(
     for k in 0..count {
         let coef = other[from + k];
         if coef != 0 {
-            row[to + k] = field.add(row[to + k], field.mul(factor, coef));
+            row[to + k] = field.add_product(row[to + k], factor, coef);
         }
     }
 }

@@ -9,8 +9,8 @@ pub loop-k-init : goal.loop-k-init
 loop-k-init c = run_begins c.args.field.now c.args.c c.args.from c.args.to c.args.other.now c.args.row.now
     (subst (λ n. IsRow c.args.field.now n c.args.row.now) (sym c.requires.own.full) c.requires.own)
 
-pub add-requires-clause-a_residue : goal.add-requires-clause-a_residue
-add-requires-clause-a_residue c = row_small c.args.field.now (length c.args.row.now) c.loop-k.row (c.args.to + c.loop-k.k) c.loop-k.invariant.row (omega (arith, c.requires.own.full, c.requires.to))
+pub add_product-requires-clause-a_residue : goal.add_product-requires-clause-a_residue
+add_product-requires-clause-a_residue c = row_small c.args.field.now (length c.args.row.now) c.loop-k.row (c.args.to + c.loop-k.k) c.loop-k.invariant.row (omega (arith, c.requires.own.full, c.requires.to))
 
 pub loop-k-preserved : goal.loop-k-preserved
 loop-k-preserved c =
@@ -25,10 +25,10 @@ loop-k-preserved c =
     let own : IsRow p (length old) old = subst (λ n. IsRow p n old) (sym c.requires.own.full) c.requires.own in
     elim c.if-coef-ne0.branch [
       | then-coef-ne0 w ↦
-          let value : w.add.result ≡ (get_or new (to + k) 0 + (p - x) * get_or g (from + k) 0) % p =
-          less_step p x (get_or new (to + k) 0) (get_or g (from + k) 0) c.neg-factor.result w.mul.result w.add.result c.neg-factor.ensures.value w.mul.ensures.value w.add.ensures.value in
+          let value : w.add_product.result ≡ (get_or new (to + k) 0 + (p - x) * get_or g (from + k) 0) % p =
+          less_step p x (get_or new (to + k) 0) (get_or g (from + k) 0) c.neg-factor.result w.add_product.result c.neg-factor.ensures.value w.add_product.ensures.value in
           subst (SubtractsRun p x from to (k + 1) g old) (sym w.row-is)
-          (run_set p x from to k w.add.result g old new c.loop-k.invariant (omega (arith, c.requires.own.full, c.requires.to, c.loop-k-test.true)) w.add.ensures.residue value)
+          (run_set p x from to k w.add_product.result g old new c.loop-k.invariant (omega (arith, c.requires.own.full, c.requires.to, c.loop-k-test.true)) w.add_product.ensures.residue value)
       | else-coef-ne0 w ↦
           subst (SubtractsRun p x from to (k + 1) g old) (sym w.row-is)
           (run_skip p x from to k g old new c.loop-k.invariant own w.if-coef-ne0.false)
