@@ -41,6 +41,8 @@ pub fn read_all<S: Source>(
     ensures later { S.faults source.old ≤ S.faults source.new }
     ensures kept { OnOk result (S.faults source.new ≡ S.faults source.old) }
     ensures failed { IsErrOf result ReadAllError.Failed → Rose (S.faults source.old) (S.faults source.new) }
+    ensures memory_kept { IsErrOf result ReadAllError.Memory → S.faults source.new ≡ S.faults source.old }
+    ensures too_long_kept { IsErrOf result ReadAllError.TooLong → S.faults source.new ≡ S.faults source.old }
     // More bytes than the limit were given, or else not more.
     ensures too_long { IsErrOf result ReadAllError.TooLong →
         (bytes : List ℕ) × Gave (S.left source.old) (S.left source.new) limit bytes × (limit < length bytes) }

@@ -128,6 +128,6 @@ pub record Ends {K C : Type 0} (out : K → Option (List ℕ)) (cert : C → Opt
   pub read_fault : status ≡ ReadFault → Rose read_before read_now
   pub write_fault : status ≡ WriteFault → Rose out_before out_now ⊎ Rose cert_before cert_now
   pub unread : status ≡ ReadFault → (k' ≡ k) × (c' ≡ c) × R
-  pub memory : status ≡ Memory → (k' ≡ k) × (c' ≡ c) × R
+  pub memory : status ≡ Memory → (k' ≡ k) × (c' ≡ c) × (read_now ≡ read_before) × R
   pub cut : status ≡ WriteFault → (due : Status) × (text proof : List ℕ) × (n : ℕ) × D due text proof
       × Appends (out k) (out k') (take n text) × Appends (cert c) (cert c') proof

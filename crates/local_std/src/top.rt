@@ -44,9 +44,11 @@ pub fn run_lstd<R: Threads + Sync, S: Source, K: Sink, C: Sink, G: Gate>(
     ensures write_fault { result ≡ Status.WriteFault → Rose (K.faults out.old) (K.faults out.new) ⊎ Rose (C.faults cert.old) (C.faults cert.new) }
 
     // After one of these, nothing was written, the source gave no more than the limit, and the words are in the grammar.
+    // Where memory ran out, no fault was counted.
     ensures unread { result ≡ Status.ReadFault → (out.new ≡ out.old) × (cert.new ≡ cert.old)
         × GaveSome (S.left source.old) (S.left source.new) 1048576 × InGrammar (map string_bytes words.now) }
     ensures memory { result ≡ Status.Memory → (out.new ≡ out.old) × (cert.new ≡ cert.old)
+        × (S.faults source.new ≡ S.faults source.old)
         × GaveSome (S.left source.old) (S.left source.new) 1048576 × InGrammar (map string_bytes words.now) }
 
     // A fault of `out` leaves the beginning of a text that was due.

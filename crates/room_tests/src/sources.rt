@@ -68,6 +68,27 @@ fn memory_source_is_read_to_its_end(rt: HostRuntime) -> Result<(), Fail> {
     Ok(())
 }
 
+/// The bytes of one read into a buffer of eight.
+fn piece_of(alloc: Global, source: &mut MemSource) -> Result<Vec<u8>, Fail> {
+    let mut buf = [0u8; 8];
+    let count = source.read(&mut buf).ok().ok_or("not read")?;
+    Ok(buf[..count].to_vec(alloc)?)
+}
+
+#[test]
+fn memory_source_gives_whole_pieces(rt: HostRuntime) -> Result<(), Fail> {
+    let alloc = rt.alloc();
+    let mut pieces = source(alloc, b"abcdefgh", 3, &[2])?;
+    assert!(rt; piece_of(alloc, &mut pieces)?.as_slice() == b"abc".as_slice());
+    assert!(rt; piece_of(alloc, &mut pieces)?.as_slice() == b"def".as_slice());
+    assert!(rt; pieces.read(&mut [0u8; 8]) == Err(Failed));
+    assert!(rt; piece_of(alloc, &mut pieces)?.as_slice() == b"gh".as_slice());
+    assert!(rt; piece_of(alloc, &mut pieces)?.is_empty());
+    let mut whole = source(alloc, b"abcdefghij", 100, &[])?;
+    assert!(rt; piece_of(alloc, &mut whole)?.as_slice() == b"abcdefgh".as_slice());
+    Ok(())
+}
+
 /// Whether a sink with so much room that fails at these calls has these bytes of a text in the end, and the answer to it is this.
 fn keeps(
     alloc: Global,
