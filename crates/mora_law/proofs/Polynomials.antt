@@ -7,8 +7,9 @@ use Rattle.local_order.specs.Mono.{degree, same}
 use Rattle.local_order.specs.Order.{IsAbove}
 use Rattle.local_order.proofs.Order.{same-false, same_self}
 use Rattle.mono_rank.specs.Laws.{Numbering, IsNumbering}
-use Rattle.sparse_poly.specs.Poly.{total, IsBelow, IsCanonical}
-use Rattle.sparse_poly.specs.Ideal.{Problem, lead_of}
+use Rattle.sparse_poly.specs.Poly.{total, IsAboveFirst, IsCanonical}
+use Rattle.sparse_poly.specs.Ideal.{Problem, IsLead}
+use Rattle.sparse_poly.proofs.Unique.{IsLead-canonical}
 use Rattle.entry_code.specs.declared.term.Term.{Term}
 use Rattle.rank_algebra.specs.Vector.{Vector, nothing, Agree}
 use Rattle.mora_law.specs.Ring.{numbering_of, ranks_of_problem, IsAdmissible, vector_of}
@@ -83,12 +84,12 @@ module _ (P : Problem) (h : IsAdmissible P) where
 
   -- ---- the canonical form
   -- a monomial of lesser rank is above the terms of later ranks
-  below_from : (v : Vector) (left r x : ℕ) → r + left ≤ O.count → x < r → IsBelow (O.mono x) (poly_of_terms P (terms_from (ranks_of_problem P) left r v))
+  below_from : (v : Vector) (left r x : ℕ) → r + left ≤ O.count → x < r → IsAboveFirst (O.mono x) (poly_of_terms P (terms_from (ranks_of_problem P) left r v))
   below_from v zero r x l m = tt
   below_from v (suc left) r x l m = go (is_none_at (ranks_of_problem P) v r) (below_from v left (suc r) x (omega arith) (omega arith))
     where
-      go : (b : Bool) → IsBelow (O.mono x) (poly_of_terms P (terms_from (ranks_of_problem P) left (suc r) v)) →
-          IsBelow (O.mono x) (poly_of_terms P (term_by r (v r % (ranks_of_problem P).p) (terms_from (ranks_of_problem P) left (suc r) v) b))
+      go : (b : Bool) → IsAboveFirst (O.mono x) (poly_of_terms P (terms_from (ranks_of_problem P) left (suc r) v)) →
+          IsAboveFirst (O.mono x) (poly_of_terms P (term_by r (v r % (ranks_of_problem P).p) (terms_from (ranks_of_problem P) left (suc r) v) b))
       go true z = z
       go false z = above_by_rank P h x r m (omega arith)
 
@@ -126,7 +127,8 @@ module _ (P : Problem) (h : IsAdmissible P) where
   unfolding ranks_of_problem
   high_of_terms v m high = ap (λ ts. total (poly_of_terms P ts) m) (terms_walk (ranks_of_problem P) v) ∙ high_from v O.count 0 m (omega arith) high
 
--- the leading monomial of the polynomial is that of the first term
-pub lead_of_terms : (P : Problem) (ts : List Term) (r : ℕ) → lead (ranks_of_problem P) (vector_of_terms ts) ≡ Some r → lead_of (poly_of_terms P ts) ≡ (numbering_of P).mono (lead_rank ts)
-lead_of_terms P [] r e = absurd ((lead_some (ranks_of_problem P) nothing r e).some (same_refl _ _))
-lead_of_terms P (t ∷ ts) r e = refl
+-- the lead of a canonical polynomial is the monomial of its first rank
+pub lead_of_terms : (P : Problem) (ts : List Term) (r : ℕ) → lead (ranks_of_problem P) (vector_of_terms ts) ≡ Some r → IsCanonical P.p P.n (poly_of_terms P ts) →
+    IsLead P (poly_of_terms P ts) ((numbering_of P).mono (lead_rank ts))
+lead_of_terms P [] r e w = absurd ((lead_some (ranks_of_problem P) nothing r e).some (same_refl _ _))
+lead_of_terms P (t ∷ ts) r e w = IsLead-canonical P (record { mono = (numbering_of P).mono t.rank; coef = t.coef }) (poly_of_terms P ts) w

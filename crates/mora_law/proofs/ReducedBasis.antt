@@ -1,6 +1,7 @@
 -- A reduced basis by rank is the reduced standard basis of the problem's ideal.
 -- Members go one by one; leads by rank and leads as monomials are tied by the numbering.
 use Rattle.std.proofs.Common.{◌≡◌, ℕ, zero, suc, ◌%◌, ◌<◌, ◌≤◌, ◌≢◌, ◌⊎◌, List, [], ◌∷◌, length, map, Contains, refl, sym, ◌∙◌, ap, ap₂, subst, arith, inl, inr}
+use Rattle.std.specs.List.{AllZip}
 use Rattle.std.proofs.Math.Nat
 use Rattle.std.proofs.lemmas.Bool.{cases_lt}
 use Rattle.local_order.specs.Mono.{degree, Divides}
@@ -8,11 +9,11 @@ use Rattle.local_order.specs.Order.{IsAbove}
 use Rattle.mono_rank.specs.Laws.{Numbering, IsNumbering}
 use Rattle.rank_algebra.specs.Ranks.{Ranks}
 use Rattle.sparse_poly.specs.Poly.{Poly, total, coef, IsCanonical}
-use Rattle.sparse_poly.specs.Ideal.{Problem, IsInIdeal, IsLeadOfIdeal, IsFalling, IsMinimalLead, lead_of, leads_of, IsReducedMember, IsReducedBasis}
+use Rattle.sparse_poly.specs.Ideal.{Problem, IsInIdeal, IsLeadOfIdeal, IsLead, IsFalling, IsMinimalLead, IsReducedMember, IsReducedBasis}
 use Rattle.entry_code.specs.declared.term.Term.{Term}
 use Rattle.rank_algebra.specs.Vector.{Same}
 use Rattle.mora_law.specs.Ring.{numbering_of, ranks_of_problem, IsAdmissible, vector_of, generators_of}
-use Rattle.rank_algebra.specs.Ideal.{IsLead, IsLeadOfSpan, Generators}
+use Rattle.rank_algebra.specs.Ideal.{IsLead as IsLeadByRank, IsLeadOfSpan, Generators}
 use Rattle.mora_law.specs.Entries.{vector_of_terms, terms_of, lead_rank, poly_of_terms}
 use Rattle.rank_algebra.proofs.Linear.{span_space}
 use Rattle.mora_law.proofs.Ring.{numbering_is, ranks_are, ranks_p, ranks_count}
@@ -46,7 +47,7 @@ module _ (P : Problem) (h : IsAdmissible P) where
   -- ---- members
   module _ (ts : List Term) (a : IsMember (ranks_of_problem P) (generators_of P) ts) where
     -- its lead is the first term
-    i : IsLead (ranks_of_problem P) (vector_of_terms ts) (lead_rank ts)
+    i : IsLeadByRank (ranks_of_problem P) (vector_of_terms ts) (lead_rank ts)
     i = lead_some (ranks_of_problem P) (vector_of_terms ts) (lead_rank ts) a.leads
 
     -- the polynomial is that of its own vector
@@ -72,28 +73,27 @@ module _ (P : Problem) (h : IsAdmissible P) where
         go (inr l) = l
         go (inl l) = absurd (n (ap (λ x. x % P.p) (subst (λ us. total (poly_of_terms P us) m ≡ 0) own (high_of_terms P h (vector_of_terms ts) m l)) ∙ Nat.zero-mod P.p))
 
-    -- its leading monomial is that of the first term
-    lead_is : lead_of (poly_of_terms P ts) ≡ O.mono (lead_rank ts)
-    lead_is = lead_of_terms P ts (lead_rank ts) a.leads
+    -- it is canonical
+    form : IsCanonical P.p P.n (poly_of_terms P ts)
+    form = subst (λ us. IsCanonical P.p P.n (poly_of_terms P us)) own (canonical_of_terms P h (vector_of_terms ts))
 
-    -- which has a rank
+    -- its lead has a rank
     small : lead_rank ts < O.count
     small = counted (lead_rank ts) i.small
 
     -- its leading coefficient is 1
-    monic : coef P.p (poly_of_terms P ts) (lead_of (poly_of_terms P ts)) ≡ 1
+    monic : coef P.p (poly_of_terms P ts) (O.mono (lead_rank ts)) ≡ 1
     monic =
-        ap (coef P.p (poly_of_terms P ts)) lead_is
-        ∙ coef_is (O.mono (lead_rank ts)) (W.in_ring _ small) (W.low _ small)
+        coef_is (O.mono (lead_rank ts)) (W.in_ring _ small) (W.low _ small)
         ∙ ap (λ r. vector_of_terms ts r % P.p) (W.back _ small)
         ∙ subst (λ p. vector_of_terms ts (lead_rank ts) % p ≡ 1 % p) (ranks_p P) a.one.eq
         ∙ (let two = h.prime.two_up in let e : 1 % P.p ≡ 1 = grind arith in e)
 
     -- no other term is a lead of the ideal
-    tail : (m : List ℕ) → length m ≡ P.n → coef P.p (poly_of_terms P ts) m ≢ 0 → m ≢ lead_of (poly_of_terms P ts) → IsLeadOfIdeal P m → ⊥
+    tail : (m : List ℕ) → length m ≡ P.n → coef P.p (poly_of_terms P ts) m ≢ 0 → m ≢ O.mono (lead_rank ts) → IsLeadOfIdeal P m → ⊥
     tail m e n other j =
         let l : degree m ≤ P.d = low m n in
-        let differs : O.rank m ≡ lead_rank ts → ⊥ = λ z. other (sym (W.there m e l) ∙ ap O.mono z ∙ sym lead_is) in
+        let differs : O.rank m ≡ lead_rank ts → ⊥ = λ z. other (sym (W.there m e l) ∙ ap O.mono z) in
         let z : Same (ranks_of_problem P).p (vector_of_terms ts (O.rank m)) 0 = a.tail (O.rank m) differs ((lead_by_rank P h m e l).0 j) in
         n (coef_is m e l ∙ subst (λ p. vector_of_terms ts (O.rank m) % p ≡ 0 % p) (ranks_p P) z.eq ∙ Nat.zero-mod P.p)
 
@@ -104,26 +104,22 @@ module _ (P : Problem) (h : IsAdmissible P) where
         (record { at = λ r l. subst (λ us. Same (ranks_of_problem P).p (vector_of P (poly_of_terms P us) r) (vector_of_terms ts r)) own ((vector_back P h (vector_of_terms ts)).at r (counted r l)) }) a.inside)
 
     -- so it is a member of the reduced basis
-    member : IsReducedMember P (poly_of_terms P ts)
+    member : IsReducedMember P (poly_of_terms P ts) (O.mono (lead_rank ts))
     member = record {
-      form = subst (λ us. IsCanonical P.p P.n (poly_of_terms P us)) own (canonical_of_terms P h (vector_of_terms ts));
+      form = form;
       is_in = inside;
       low = λ m e n. low m n;
+      lead = lead_of_terms P ts (lead_rank ts) a.leads form;
       monic = monic;
       tail = tail;
     }
 
   -- so is each polynomial of the list
-  members : (gs : List (List Term)) → Members R G gs → (g : Poly) → Contains (map (poly_of_terms P) gs) g → IsReducedMember P g
-  members [] a g (k, l, e) = absurd (omega arith)
-  members (ts ∷ gs) a g (zero, l, e) = subst (IsReducedMember P) e (member ts a.0)
-  members (ts ∷ gs) a g (suc k, l, e) = members gs a.1 g (k, omega arith, e)
+  members : (gs : List (List Term)) → Members R G gs → AllZip (IsReducedMember P) (map (poly_of_terms P) gs) (map O.mono (map lead_rank gs))
+  members [] a = tt
+  members (ts ∷ gs) a = (member ts a.0, members gs a.1)
 
   -- ---- leads
-  leads_are : (gs : List (List Term)) → Members R G gs → leads_of (map (poly_of_terms P) gs) ≡ map O.mono (map lead_rank gs)
-  leads_are [] a = refl
-  leads_are (ts ∷ gs) a = ap₂ ◌∷◌ (lead_is ts a.0) (leads_are gs a.1)
-
   -- a monomial of the list has a rank of the list
   mem_to : (rs : List ℕ) → ((r : ℕ) → Mem r rs → r < O.count) → (m : List ℕ) → Contains (map O.mono rs) m → (length m ≡ P.n) × (degree m ≤ P.d) × Mem (O.rank m) rs
   mem_to [] b m (k, l, e) = absurd (omega arith)
@@ -138,14 +134,14 @@ module _ (P : Problem) (h : IsAdmissible P) where
   mem_from (r ∷ rs) m e l (inr j) = let x = mem_from rs m e l j in (suc x.0, omega (arith, x.1), x.2)
 
   -- rising ranks have falling monomials
-  falling : (rs : List ℕ) → ((r : ℕ) → Mem r rs → r < O.count) → Rising rs → IsFalling (map O.mono rs)
+  falling : (rs : List ℕ) → ((r : ℕ) → Mem r rs → r < O.count) → Rising rs → IsFalling P (map O.mono rs)
   falling [] b a = tt
   falling (r ∷ []) b a = tt
   falling (r ∷ s ∷ rs) b a = (above_by_rank P h r s (a.0 s (inl refl)) (b s (inr (inl refl))), falling (s ∷ rs) (λ y j. b y (inr j)) a.1)
 
   -- a minimal rank is a minimal lead
   minimal_to : (m : List ℕ) → length m ≡ P.n → degree m ≤ P.d → IsMinimal R G (O.rank m) → IsMinimalLead P m
-  minimal_to m e l a = record { has = (lead_by_rank P h m e l).1 a.leads; least = least }
+  minimal_to m e l a = record { lead = (lead_by_rank P h m e l).1 a.leads; least = least }
     where
       least : (k : List ℕ) → length k ≡ P.n → Divides k m → IsLeadOfIdeal P k → k ≡ m
       least k f factor j =
@@ -155,13 +151,13 @@ module _ (P : Problem) (h : IsAdmissible P) where
 
   -- and a minimal lead has a minimal rank
   minimal_from : (m : List ℕ) → IsMinimalLead P m → (length m ≡ P.n) × (degree m ≤ P.d) × IsMinimal R G (O.rank m)
-  minimal_from m a = (e, l, record { leads = (lead_by_rank P h m e l).0 a.has; alone = alone })
+  minimal_from m a = (e, l, record { leads = (lead_by_rank P h m e l).0 a.lead; alone = alone })
     where
       e : length m ≡ P.n
-      e = a.has.lead.in_ring
+      e = a.lead.lead.in_ring
 
       l : degree m ≤ P.d
-      l = a.has.low
+      l = a.lead.low
 
       alone : (q s : ℕ) → (ranks_of_problem P).times q s ≡ O.rank m → IsLeadOfSpan (ranks_of_problem P) (generators_of P) s → s ≡ O.rank m
       alone q s f j =
@@ -172,16 +168,14 @@ module _ (P : Problem) (h : IsAdmissible P) where
   -- from ranks to monomials
   pub reduced_basis : (gs : List (List Term)) → IsReducedByRank (ranks_of_problem P) (generators_of P) gs → IsReducedBasis P (map (poly_of_terms P) gs)
   reduced_basis gs a = record {
+    leads = map O.mono (map lead_rank gs);
     members = members gs a.members;
-    falling = subst IsFalling (sym at) (falling (map lead_rank gs) within a.rising);
-    leads = λ m. (
-      (λ c. let x = mem_to (map lead_rank gs) within m (subst (λ ms. Contains ms m) at c) in minimal_to m x.0 x.1 ((a.exactly (O.rank m)).0 x.2)),
-      (λ j. let x = minimal_from m j in subst (λ ms. Contains ms m) (sym at) (mem_from (map lead_rank gs) m x.0 x.1 ((a.exactly (O.rank m)).1 x.2))),
+    falling = falling (map lead_rank gs) within a.rising;
+    minimal = λ m. (
+      (λ c. let x = mem_to (map lead_rank gs) within m c in minimal_to m x.0 x.1 ((a.exactly (O.rank m)).0 x.2)),
+      (λ j. let x = minimal_from m j in mem_from (map lead_rank gs) m x.0 x.1 ((a.exactly (O.rank m)).1 x.2)),
     );
   }
     where
-      at : leads_of (map (poly_of_terms P) gs) ≡ map (numbering_of P).mono (map lead_rank gs)
-      at = leads_are gs a.members
-
       within : (r : ℕ) → Mem r (map lead_rank gs) → r < (numbering_of P).count
       within r c = counted r ((a.exactly r).0 c).leads.is.small

@@ -10,8 +10,8 @@ use Rattle.local_order.proofs.Order.{same-false, same_self, degree_of_above}
 use Rattle.mono_rank.specs.Laws.{Numbering, IsNumbering}
 use Rattle.mono_rank.proofs.Numbers.{ds_is_degree_order}
 use Rattle.mono_rank.proofs.Products.{some_monomials}
-use Rattle.sparse_poly.specs.Poly.{Poly, total, coef, IsIn, cut, term_times, times, combination, IsLead}
-use Rattle.sparse_poly.specs.Ideal.{Problem}
+use Rattle.sparse_poly.specs.Poly.{Poly, total, coef, IsIn, cut, term_times, times, combination}
+use Rattle.sparse_poly.specs.Ideal.{Problem, IsLead}
 use Rattle.sparse_poly.proofs.Coef.{total-append, total-cut_in, total-cut_out}
 use Rattle.sparse_poly.proofs.Member.{AllIn}
 use Rattle.sparse_poly.proofs.Closure.{AllIn-from_All}
@@ -144,7 +144,7 @@ module _ (P : Problem) (h : IsAdmissible P) where
   vector_nothing : (f : Poly) → ((m : List ℕ) → length m ≡ P.n → degree m ≤ P.d → coef P.p f m ≡ 0) → Agree (ranks_of_problem P) O.count (vector_of P f) nothing
   vector_nothing f z = (same_by_rank P h f []).1 (λ m e low. z m e low ∙ sym (Nat.zero-mod P.p))
 
-  module _ (f : Poly) (l : List ℕ) (is : IsLead P.p P.n (cut P.d f) l) where
+  module _ (f : Poly) (l : List ℕ) (is : IsLead P (cut P.d f) l) where
     -- a lead has degree at most d
     lead_low : degree l ≤ P.d
     lead_low = go (cases_lt P.d (degree l))

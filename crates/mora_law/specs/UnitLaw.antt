@@ -1,10 +1,9 @@
 -- What a run does, up to a unit.
 use Rattle.std.specs.Prelude.{◌≡◌, ℕ, zero, suc, ◌+◌, ◌<◌, ◌≤◌, List, [], ◌∷◌, ◌++◌, length, get_or, Some, cond, eqb}
 use Rattle.local_order.specs.Mono.{degree, mono_one}
-use Rattle.local_order.specs.Order.{IsAbove}
 use Rattle.rank_algebra.specs.Ranks.{Ranks}
-use Rattle.sparse_poly.specs.Poly.{Poly, coef, IsIn, cut, times, combination, IsLead}
-use Rattle.sparse_poly.specs.Ideal.{Problem}
+use Rattle.sparse_poly.specs.Poly.{Poly, coef, IsIn, cut, times, combination}
+use Rattle.sparse_poly.specs.Ideal.{Problem, IsGreater, IsLead}
 use Rattle.entry_code.specs.declared.term.Term.{Term}
 use Rattle.rank_algebra.specs.Vector.{Same, Vector, nothing, add, scale, shift, Agree}
 use Rattle.mora_law.specs.Ring.{numbering_of}
@@ -45,5 +44,5 @@ pub record UnitLawOfPolynomials (P : Problem) (known : List Poly) (f : Poly) (w 
   pub a : ℕ → Poly
   pub a_in_ring : (e : ℕ) → IsIn P.n (a e)
   pub agrees : (m : List ℕ) → length m ≡ P.n → degree m ≤ P.d → (numbering_of P).rank m < w → coef P.p (times u f) m ≡ coef P.p (h ++ combination a known) m
-  pub low : (e : ℕ) (l m : List ℕ) → e < length known → IsLead P.p P.n (cut P.d f) l → length m ≡ P.n → IsAbove m l → coef P.p (times (a e) (get_or known e [])) m ≡ 0
+  pub low : (e : ℕ) (l m : List ℕ) → e < length known → IsLead P (cut P.d f) l → length m ≡ P.n → IsGreater P m l → coef P.p (times (a e) (get_or known e [])) m ≡ 0
   pub none : (e : ℕ) → e < length known → ((m : List ℕ) → length m ≡ P.n → degree m ≤ P.d → coef P.p f m ≡ 0) → a e ≡ []

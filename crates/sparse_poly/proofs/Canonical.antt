@@ -7,7 +7,7 @@ use Rattle.prime_field.proofs.Residue.{add_same}
 use Rattle.local_order.specs.Mono.{same}
 use Rattle.local_order.specs.Order.{IsAbove, above}
 use Rattle.local_order.proofs.Order.{above_trans, same-true, above-true, above-false}
-use Rattle.sparse_poly.specs.Poly.{Term, Poly, total, coef, IsIn, IsSame, IsCanonical, IsBelow}
+use Rattle.sparse_poly.specs.Poly.{Term, Poly, total, coef, IsIn, IsSame, IsCanonical, IsAboveFirst}
 use Rattle.sparse_poly.specs.Canonical.{in_front, add_term, canonical}
 use Rattle.sparse_poly.proofs.Unique.{in_of_canonical, canonical_unique, same_total}
 use Rattle.sparse_poly.proofs.Coef.{total-append}
@@ -75,15 +75,15 @@ coef-canonical p (t ∷ f) k =
 
 -- ---- form
 -- a monomial above a term and the rest is above both together
-below-in_front : (c : ℕ) (m k : List ℕ) (f : Poly) → IsAbove k m → IsBelow k f → IsBelow k (in_front c m f)
+below-in_front : (c : ℕ) (m k : List ℕ) (f : Poly) → IsAbove k m → IsAboveFirst k f → IsAboveFirst k (in_front c m f)
 below-in_front c m k f h b = go (eqb c 0)
   where
-    go : (e : Bool) → IsBelow k (cond e f (record { mono = m; coef = c } ∷ f))
+    go : (e : Bool) → IsAboveFirst k (cond e f (record { mono = m; coef = c } ∷ f))
     go true = b
     go false = h
 
 -- a term above a canonical polynomial goes in front of it
-IsCanonical-in_front : (p n c : ℕ) (m : List ℕ) (f : Poly) → 0 < p → length m ≡ n → IsBelow m f → IsCanonical p n f → IsCanonical p n (in_front (c % p) m f)
+IsCanonical-in_front : (p n c : ℕ) (m : List ℕ) (f : Poly) → 0 < p → length m ≡ n → IsAboveFirst m f → IsCanonical p n f → IsCanonical p n (in_front (c % p) m f)
 IsCanonical-in_front p n c m f pos l b w = go (eqb (c % p) 0) refl
   where
     go : (e : Bool) → eqb (c % p) 0 ≡ e → IsCanonical p n (cond e f (record { mono = m; coef = c % p } ∷ f))
@@ -91,15 +91,15 @@ IsCanonical-in_front p n c m f pos l b w = go (eqb (c % p) 0) refl
     go false e = (l, pos_of (c % p) e, mod-lt c pos, b, w)
 
 -- a monomial above a term and a canonical polynomial is above their sum
-below-add_term : (p n : ℕ) (t : Term) (f : Poly) (k : List ℕ) → IsAbove k t.mono → IsBelow k f → IsCanonical p n f → IsBelow k (add_term p t f)
+below-add_term : (p n : ℕ) (t : Term) (f : Poly) (k : List ℕ) → IsAbove k t.mono → IsAboveFirst k f → IsCanonical p n f → IsAboveFirst k (add_term p t f)
 below-add_term p n t [] k h b w = below-in_front (t.coef % p) t.mono k [] h tt
 below-add_term p n t (s ∷ f) k h b w = go (above t.mono s.mono) (same t.mono s.mono)
   where
-    tail : (f : Poly) → IsBelow s.mono f → IsBelow k f
+    tail : (f : Poly) → IsAboveFirst s.mono f → IsAboveFirst k f
     tail [] d = tt
     tail (u ∷ f) d = above_trans k s.mono u.mono b d
 
-    go : (a e : Bool) → IsBelow k (cond a (in_front (t.coef % p) t.mono (s ∷ f)) (cond e (in_front ((t.coef + s.coef) % p) s.mono f) (s ∷ add_term p t f)))
+    go : (a e : Bool) → IsAboveFirst k (cond a (in_front (t.coef % p) t.mono (s ∷ f)) (cond e (in_front ((t.coef + s.coef) % p) s.mono f) (s ∷ add_term p t f)))
     go true e = below-in_front (t.coef % p) t.mono k (s ∷ f) h b
     go false true = below-in_front ((t.coef + s.coef) % p) s.mono k f b (tail f w.3)
     go false false = b

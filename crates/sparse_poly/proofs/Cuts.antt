@@ -6,7 +6,7 @@ use Rattle.std.proofs.lemmas.List.{take_more, append-nil}
 use Rattle.std.proofs.lemmas.List.Elements.{All-nil, All-cons, All-head, All-tail}
 use Rattle.local_order.specs.Mono.{degree, same}
 use Rattle.local_order.specs.Order.{above}
-use Rattle.sparse_poly.specs.Poly.{Term, Poly, coef, cut, IsIn, IsCanonical, IsBelow, HasDegreeAtMost}
+use Rattle.sparse_poly.specs.Poly.{Term, Poly, coef, cut, IsIn, IsCanonical, IsAboveFirst, HasDegreeAtMost}
 use Rattle.sparse_poly.specs.Canonical.{in_front, add_term, canonical}
 use Rattle.sparse_poly.proofs.Canonical.{coef-canonical, canonical_self, canonical_same, IsCanonical-canonical}
 use Rattle.sparse_poly.proofs.Coef.{total-cut_in, total-cut_out}
@@ -51,11 +51,11 @@ in-cut n d (t ∷ f) h = go (leb (degree t.mono) d) (in-cut n d f h.1)
     go false i = i
 
 -- a monomial above a canonical polynomial is above each part
-below-cut : (p n d : ℕ) (k : List ℕ) (f : Poly) → IsBelow k f → IsCanonical p n f → IsBelow k (cut d f)
+below-cut : (p n d : ℕ) (k : List ℕ) (f : Poly) → IsAboveFirst k f → IsCanonical p n f → IsAboveFirst k (cut d f)
 below-cut p n d k [] b w = tt
 below-cut p n d k (t ∷ f) b w = go (leb (degree t.mono) d) (below-cut p n d k f (below-down p n k t f b w.3) w.4)
   where
-    go : (e : Bool) → IsBelow k (cut d f) → IsBelow k (cond e (t ∷ cut d f) (cut d f))
+    go : (e : Bool) → IsAboveFirst k (cut d f) → IsAboveFirst k (cond e (t ∷ cut d f) (cut d f))
     go true i = b
     go false i = i
 

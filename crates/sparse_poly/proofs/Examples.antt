@@ -73,7 +73,7 @@ monomial_lead P m prime l low h = record {
   member = monomial ∷ [];
   in_ring = (l, tt);
   is_in = h;
-  lead = rw (cut-low P.d monomial [] low) (IsLead-canonical P.p P.n monomial [] (l, lit< tt, prime, tt, tt));
+  lead = rw (cut-low P.d monomial [] low) (IsLead-canonical P monomial [] (l, lit< tt, prime, tt, tt));
 }
   where
     monomial : Term
@@ -165,7 +165,7 @@ unit_lead = record {
   member = power_of_x 1 0 ∷ power_of_x 1 1 ∷ [];
   in_ring = (refl, (refl, tt));
   is_in = IsInIdeal-generator _ _ ((refl, (refl, tt)), tt) (0, lit< tt, refl);
-  lead = IsLead-canonical 5 1 (power_of_x 1 0) (power_of_x 1 1 ∷ []) (refl, lit< tt, lit< tt, inl (lit< tt), (refl, lit< tt, lit< tt, tt, tt));
+  lead = IsLead-canonical _ (power_of_x 1 0) (power_of_x 1 1 ∷ []) (refl, lit< tt, lit< tt, inl (lit< tt), (refl, lit< tt, lit< tt, tt, tt));
 }
 
 -- ---- two variables

@@ -6,7 +6,7 @@ use Rattle.std.proofs.Math.Nat.{mod-mod}
 use Rattle.prime_field.proofs.Residue.{add_same}
 use Rattle.local_order.specs.Mono.{same}
 use Rattle.local_order.specs.Order.{IsAbove}
-use Rattle.sparse_poly.specs.Poly.{Term, Poly, coef, IsIn, IsCanonical, IsBelow}
+use Rattle.sparse_poly.specs.Poly.{Term, Poly, coef, IsIn, IsCanonical, IsAboveFirst}
 use Rattle.sparse_poly.specs.Canonical.{canonical, in_front}
 use Rattle.sparse_poly.proofs.Canonical.{pos_of, total-in_front, canonical_self, canonical_same}
 use Rattle.sparse_poly.proofs.Coef.{total-append}
@@ -34,7 +34,7 @@ AllBelow k [] = Unit {0}
 AllBelow k (t ∷ f) = IsAbove k t.mono × AllBelow k f
 
 -- a monomial above a canonical polynomial is above each term
-all-below : (p n : ℕ) (k : List ℕ) (f : Poly) → IsBelow k f → IsCanonical p n f → AllBelow k f
+all-below : (p n : ℕ) (k : List ℕ) (f : Poly) → IsAboveFirst k f → IsCanonical p n f → AllBelow k f
 all-below p n k [] b w = tt
 all-below p n k (t ∷ f) b w = (b, all-below p n k f (below-down p n k t f b w.3) w.4)
 
@@ -44,11 +44,11 @@ not_zero a h e = let pos : 0 < a = pos_of a h in omega arith
 
 -- the image of a term is above the images of the terms below it
 below-images : (p n : ℕ) (c : Term → ℕ) (m : Term → List ℕ) (t : Term) (f : Poly) → KeepsOrder p n c m → length t.mono ≡ n → c t ≢ 0 →
-    AllBelow t.mono f → IsCanonical p n f → IsBelow (m t) (images c m f)
+    AllBelow t.mono f → IsCanonical p n f → IsAboveFirst (m t) (images c m f)
 below-images p n c m t [] h l z b w = tt
 below-images p n c m t (s ∷ f) h l z b w = go (eqb (c s) 0) refl (below-images p n c m t f h l z b.1 w.4)
   where
-    go : (e : Bool) → eqb (c s) 0 ≡ e → IsBelow (m t) (images c m f) → IsBelow (m t) (cond e [] (record { mono = m s; coef = c s } ∷ []) ++ images c m f)
+    go : (e : Bool) → eqb (c s) 0 ≡ e → IsAboveFirst (m t) (images c m f) → IsAboveFirst (m t) (cond e [] (record { mono = m s; coef = c s } ∷ []) ++ images c m f)
     go true e i = i
     go false e i = h.order t s l w.0 z (not_zero (c s) e) b.0
 
@@ -119,7 +119,7 @@ IsCanonical-take p n zero f w = tt
 IsCanonical-take p n (suc i) [] w = tt
 IsCanonical-take p n (suc i) (t ∷ f) w = (w.0, w.1, w.2, below-take i f w.3, IsCanonical-take p n i f w.4)
   where
-    below-take : (i : ℕ) (f : Poly) → IsBelow t.mono f → IsBelow t.mono (take i f)
+    below-take : (i : ℕ) (f : Poly) → IsAboveFirst t.mono f → IsAboveFirst t.mono (take i f)
     below-take zero f b = tt
     below-take (suc i) [] b = tt
     below-take (suc i) (s ∷ f) b = b

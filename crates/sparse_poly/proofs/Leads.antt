@@ -5,13 +5,13 @@ use Rattle.std.proofs.Math.Nat.{zero-mod, one-mul}
 use Rattle.local_order.specs.Mono.{degree, mono_times, Divides}
 use Rattle.local_order.specs.Order.{IsAbove}
 use Rattle.local_order.proofs.Order.{above_cases, above_irrefl, above_trans, above-mono_times, degree_of_above, degree-mono_times, divides_cases, mono_times_comm}
-use Rattle.sparse_poly.specs.Poly.{Poly, total, coef, IsIn, IsLead, term_times}
-use Rattle.sparse_poly.specs.Ideal.{Problem, IsInIdeal, IsLeadOfIdeal, IsStaircase}
+use Rattle.sparse_poly.specs.Poly.{Poly, total, coef, IsIn, term_times}
+use Rattle.sparse_poly.specs.Ideal.{Problem, IsLead, IsInIdeal, IsLeadOfIdeal, IsStaircase}
 use Rattle.sparse_poly.proofs.Coef.{total-cut_in, total-term_times, total-shift_off}
 use Rattle.sparse_poly.proofs.Member.{AllIn, in-term_times, IsInIdeal-term_times}
 
 -- the lead of a member is one of the ideal
-pub IsLeadOfIdeal-member : (P : Problem) (f : Poly) (m : List ℕ) → IsIn P.n f → IsInIdeal P f → degree m ≤ P.d → IsLead P.p P.n f m → IsLeadOfIdeal P m
+pub IsLeadOfIdeal-member : (P : Problem) (f : Poly) (m : List ℕ) → IsIn P.n f → IsInIdeal P f → degree m ≤ P.d → IsLead P f m → IsLeadOfIdeal P m
 IsLeadOfIdeal-member P f m i h low lead = record {
   low = low;
   member = f;
@@ -60,7 +60,7 @@ pub multiple_of_lead : (P : Problem) (a m : List ℕ) → AllIn P.n P.gens → l
 multiple_of_lead P a m gens l low (b, bl, e) x =
     IsLeadOfIdeal-member P (term_times 1 b x.member) m (in-term_times P.n 1 b x.member bn x.in_ring)
     (IsInIdeal-term_times P 1 b x.member gens bn x.in_ring x.is_in) low
-    (subst (IsLead P.p P.n (term_times 1 b x.member)) (sym at) moved)
+    (subst (IsLead P (term_times 1 b x.member)) (sym at) moved)
   where
     bn : length b ≡ P.n
     bn = bl ∙ l
@@ -68,14 +68,14 @@ multiple_of_lead P a m gens l low (b, bl, e) x =
     at : m ≡ mono_times b a
     at = e ∙ mono_times_comm a b
 
-    moved : IsLead P.p P.n (term_times 1 b x.member) (mono_times b a)
+    moved : IsLead P (term_times 1 b x.member) (mono_times b a)
     moved = record {
       in_ring = ap length (sym at) ∙ l;
       there = λ z. lead_there P a x (sym (coef-moved P.p P.n b a x.member x.in_ring bn x.lead.in_ring a x.lead.in_ring) ∙ z);
       greatest = above_multiple P.p P.n b a x.member x.in_ring bn x.lead.in_ring (lead_greatest P a x);
     }
 
--- so a divisor of a monomial without lead is without lead
+-- so a divisor of a monomial that is no lead of the ideal is none
 pub divisor_in_staircase : (P : Problem) (s : List (List ℕ)) (a m : List ℕ) → AllIn P.n P.gens → IsStaircase P s → length a ≡ P.n → Divides a m → Contains s m → Contains s a
 divisor_in_staircase P s a m gens x l d c =
     let o = x.only m c in

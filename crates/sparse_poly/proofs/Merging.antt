@@ -7,7 +7,7 @@ use Rattle.prime_field.proofs.Residue.{add_same}
 use Rattle.local_order.specs.Mono.{same}
 use Rattle.local_order.specs.Order.{IsAbove}
 use Rattle.local_order.proofs.Order.{above_trans}
-use Rattle.sparse_poly.specs.Poly.{Term, Poly, total, coef, IsCanonical, IsBelow}
+use Rattle.sparse_poly.specs.Poly.{Term, Poly, total, coef, IsCanonical, IsAboveFirst}
 use Rattle.sparse_poly.specs.Canonical.{canonical, in_front}
 use Rattle.sparse_poly.proofs.Coef.{total-append}
 use Rattle.sparse_poly.proofs.Member.{in-append}
@@ -26,17 +26,17 @@ pub record Merging (p : ℕ) (f g : Poly) (i j : ℕ) (done : Poly) : Type 0 whe
   pub sums : (k : List ℕ) → (total done k + (total (drop i f) k + total (drop j g) k)) % p ≡ (total f k + total g k) % p
 
 -- another term with the same monomial changes nothing above it
-below_put : (m : List ℕ) (done : Poly) (a t : Term) (f h : Poly) → t.mono ≡ a.mono → IsBelow m (done ++ a ∷ f) → IsBelow m (done ++ t ∷ h)
+below_put : (m : List ℕ) (done : Poly) (a t : Term) (f h : Poly) → t.mono ≡ a.mono → IsAboveFirst m (done ++ a ∷ f) → IsAboveFirst m (done ++ t ∷ h)
 below_put m [] a t f h e b = subst (λ x. IsAbove m x) (sym e) b
 below_put m (x ∷ done) a t f h e b = b
 
 -- another term and another rest in place of those at a place
-pub put : (p n : ℕ) (done : Poly) (a t : Term) (f h : Poly) → IsCanonical p n (done ++ a ∷ f) → t.mono ≡ a.mono → 0 < t.coef → t.coef < p → IsBelow t.mono h → IsCanonical p n h → IsCanonical p n (done ++ t ∷ h)
+pub put : (p n : ℕ) (done : Poly) (a t : Term) (f h : Poly) → IsCanonical p n (done ++ a ∷ f) → t.mono ≡ a.mono → 0 < t.coef → t.coef < p → IsAboveFirst t.mono h → IsCanonical p n h → IsCanonical p n (done ++ t ∷ h)
 put p n [] a t f h w e pos small b v = (ap length e ∙ w.0, pos, small, b, v)
 put p n (x ∷ done) a t f h w e pos small b v = (w.0, w.1, w.2, below_put x.mono done a t f h e w.3, put p n done a t f h w.4 e pos small b v)
 
 -- nor does a term less
-below_less : (p n : ℕ) (m : List ℕ) (done : Poly) (a : Term) (f : Poly) → IsCanonical p n (done ++ a ∷ f) → IsBelow m (done ++ a ∷ f) → IsBelow m (done ++ f)
+below_less : (p n : ℕ) (m : List ℕ) (done : Poly) (a : Term) (f : Poly) → IsCanonical p n (done ++ a ∷ f) → IsAboveFirst m (done ++ a ∷ f) → IsAboveFirst m (done ++ f)
 below_less p n m [] a [] w b = tt
 below_less p n m [] a (t ∷ f) w b = above_trans m a.mono t.mono b w.3
 below_less p n m (x ∷ done) a f w b = b
@@ -72,7 +72,7 @@ swapped p f g i j done x = record {
 }
 
 -- the next term of f is taken
-pub take_left : (p : ℕ) (f g : Poly) (i j : ℕ) (done : Poly) (a : Term) → Merging p f g i j done → i < length f → a ≡ get_or f i a → IsBelow a.mono (drop j g) →
+pub take_left : (p : ℕ) (f g : Poly) (i j : ℕ) (done : Poly) (a : Term) → Merging p f g i j done → i < length f → a ≡ get_or f i a → IsAboveFirst a.mono (drop j g) →
     Merging p f g (i + 1) j (done ++ a ∷ [])
 take_left p f g i j done a x l e b = record {
   n = x.n;
@@ -142,7 +142,7 @@ take_both p f g i j done a b c next x li lj ea eb same_mono value made =
           i_in = omega arith;
           j_in = omega arith;
           left = rw append_assoc (put p x.n done a t (drop (i + 1) f) (drop (i + 1) f) opened_f refl small below_p own_f.3 own_f.4);
-          right = rw append_assoc (put p x.n done b t (drop (j + 1) g) (drop (j + 1) g) opened_g same_mono small below_p (subst (λ m. IsBelow m (drop (j + 1) g)) (sym same_mono) own_g.3) own_g.4);
+          right = rw append_assoc (put p x.n done b t (drop (j + 1) g) (drop (j + 1) g) opened_g same_mono small below_p (subst (λ m. IsAboveFirst m (drop (j + 1) g)) (sym same_mono) own_g.3) own_g.4);
           sums = λ k.
               ap (λ z. z % p) (let q : total (done ++ t ∷ []) k + (total (drop (i + 1) f) k + total (drop (j + 1) g) k) ≡ others k + cond (same a.mono k) c 0 = omega (arith, total-append done (t ∷ []) k) in q)
               ∙ cond_sum (same a.mono k) a.coef b.coef (others k) c value
@@ -207,9 +207,9 @@ next_left p f g i j done a x l e =
     let own : IsCanonical p x.n (a ∷ drop (i + 1) f) = rest_of p x.n done (a ∷ drop (i + 1) f) (subst (λ h. IsCanonical p x.n (done ++ h)) (open_drop f i a l e) x.left) in
     (own.0, own.1, own.2)
 
--- the head of what is left of g, for `IsBelow`
-pub below_next : (m : List ℕ) (g : Poly) (j : ℕ) (b : Term) → j < length g → b ≡ get_or g j b → IsAbove m b.mono → IsBelow m (drop j g)
-below_next m g j b l e h = subst (IsBelow m) (sym (open_drop g j b l e)) h
+-- the head of what is left of g, for `IsAboveFirst`
+pub below_next : (m : List ℕ) (g : Poly) (j : ℕ) (b : Term) → j < length g → b ≡ get_or g j b → IsAbove m b.mono → IsAboveFirst m (drop j g)
+below_next m g j b l e h = subst (IsAboveFirst m) (sym (open_drop g j b l e)) h
 
 -- and of the next term of g
 pub next_right : (p : ℕ) (f g : Poly) (i j : ℕ) (done : Poly) (b : Term) (x : Merging p f g i j done) → j < length g → b ≡ get_or g j b → (length b.mono ≡ x.n) × (0 < b.coef) × (b.coef < p)
@@ -218,6 +218,6 @@ next_right p f g i j done b x l e =
     (own.0, own.1, own.2)
 
 -- the next term of g is taken
-pub take_right : (p : ℕ) (f g : Poly) (i j : ℕ) (done : Poly) (b : Term) → Merging p f g i j done → j < length g → b ≡ get_or g j b → IsBelow b.mono (drop i f) →
+pub take_right : (p : ℕ) (f g : Poly) (i j : ℕ) (done : Poly) (b : Term) → Merging p f g i j done → j < length g → b ≡ get_or g j b → IsAboveFirst b.mono (drop i f) →
     Merging p f g i (j + 1) (done ++ b ∷ [])
 take_right p f g i j done b x l e h = swapped p g f (j + 1) i (done ++ b ∷ []) (take_left p g f j i done b (swapped p f g i j done x) l e h)

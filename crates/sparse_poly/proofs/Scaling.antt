@@ -1,16 +1,18 @@
 -- The multiple of a canonical polynomial by one term, and by a constant.
 -- The terms that are made one by one are those of the canonical multiple, up to a degree where there is one.
-use Rattle.std.proofs.Common.{◌≡◌, ℕ, ◌+◌, ◌*◌, ◌%◌, ◌<◌, ◌≤◌, ◌≢◌, ◌⊎◌, List, [], ◌∷◌, ◌++◌, length, take, drop, get_or, All, refl, ap, sym, ◌∙◌, inl, inr, subst, arith}
-use Rattle.std.proofs.Math.Nat.{mod-lt}
+use Rattle.std.proofs.Common.{◌≡◌, ℕ, ◌+◌, ◌*◌, ◌%◌, ◌<◌, ◌≤◌, ◌⊎◌, List, [], ◌∷◌, ◌++◌, length, take, drop, get_or, All, refl, ap, sym, ◌∙◌, inl, inr, subst, arith, mul_comm}
+use Rattle.std.proofs.Math.Nat.{mod-lt, mod-mod}
 use Rattle.std.proofs.lemmas.List.{take-append-drop, append-nil, drop_all, take_more, get_or_default}
+use Rattle.prime_field.proofs.Residue.{mul_same}
 use Rattle.local_order.proofs.Places.{get_or-le-degree}
 use Rattle.local_order.specs.Mono.{degree, mono_times}
 use Rattle.local_order.proofs.Order.{above-mono_times, length-mono_times, degree-mono_times, degree_of_above}
-use Rattle.sparse_poly.specs.Poly.{Term, Poly, cut, lead_coef, term_times, IsIn, IsCanonical}
+use Rattle.sparse_poly.specs.Poly.{Term, Poly, total, coef, cut, term_times, IsIn, IsCanonical}
 use Rattle.sparse_poly.specs.Canonical.{canonical, in_front}
-use Rattle.sparse_poly.proofs.Canonical.{canonical-right, IsCanonical-canonical}
+use Rattle.sparse_poly.proofs.Canonical.{canonical-right, coef-canonical, IsCanonical-canonical}
 use Rattle.sparse_poly.proofs.Coef.{term_times-append}
 use Rattle.sparse_poly.proofs.Unique.{in_of_canonical}
+use Rattle.sparse_poly.proofs.Span.{total-scale}
 use Rattle.sparse_poly.proofs.Cuts.{cut-append, cut-high, cut-low}
 use Rattle.sparse_poly.proofs.Images.{images, each, images_are, images-more, KeepsOrder, IsCanonical-take, IsCanonical-drop}
 use Rattle.sparse_poly.proofs.Merging.{open_drop}
@@ -52,15 +54,12 @@ in-scale n c (t ∷ f) i = (i.0, in-scale n c f i.1)
 pub IsCanonical-scaled : (p n c : ℕ) (f : Poly) → 0 < p → IsCanonical p n f → IsCanonical p n (canonical p (term_times c [] f))
 IsCanonical-scaled p n c f pos w = IsCanonical-canonical p n (term_times c [] f) pos (in-scale n c f (in_of_canonical p n f w))
 
--- where the product of the two is 1 the multiple has leading coefficient 1
-pub scaled-lead : (p n c : ℕ) (f : Poly) (t : Term) → 0 < p → IsCanonical p n f → f ≢ [] → t ≡ get_or f 0 t → (t.coef * c) % p ≡ 1 → lead_coef (canonical p (term_times c [] f)) ≡ 1
-scaled-lead p n c [] t pos w some e one = absurd (some refl)
-scaled-lead p n c (s ∷ f) t pos w some e one =
-    ap lead_coef (sym (scaled_is p n c (s ∷ f) pos w))
-    ∙ ap (λ v. lead_coef (in_front v s.mono [] ++ multiple_of p c [] f)) value
-  where
-    value : (c * s.coef) % p ≡ 1
-    value = ap (λ u. (c * u.coef) % p) (sym e) ∙ ap (λ x. x % p) (let q : c * t.coef ≡ t.coef * c = omega arith in q) ∙ one
+-- the coefficients of the multiple by a constant are the multiples of the coefficients
+pub coef-scaled : (p c : ℕ) (f : Poly) (m : List ℕ) → coef p (canonical p (term_times c [] f)) m ≡ (coef p f m * c) % p
+coef-scaled p c f m =
+    coef-canonical p (term_times c [] f) m
+    ∙ ap (λ x. x % p) (total-scale c f m ∙ mul_comm c (total f m))
+    ∙ mul_same p (total f m) (coef p f m) c c (sym (mod-mod (total f m) p)) refl
 
 -- the sum with a multiple
 pub difference_is : (p n c : ℕ) (f g u v : Poly) → 0 < p → IsCanonical p n f → IsCanonical p n g → u ≡ f → v ≡ canonical p (term_times c [] g) →

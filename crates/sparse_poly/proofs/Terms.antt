@@ -6,9 +6,9 @@ use Rattle.std.proofs.lemmas.Bool.{cases_lt}
 use Rattle.local_order.specs.Mono.{degree, same}
 use Rattle.local_order.specs.Order.{IsAbove}
 use Rattle.local_order.proofs.Order.{above_irrefl, same-true, same-false, same_self}
-use Rattle.sparse_poly.specs.Poly.{Term, Poly, total, coef, cut, IsIn, IsLead, IsCanonical}
+use Rattle.sparse_poly.specs.Poly.{Term, Poly, total, coef, cut, IsIn, IsCanonical}
 use Rattle.sparse_poly.specs.Canonical.{canonical}
-use Rattle.sparse_poly.specs.Ideal.{Problem, IsInIdeal}
+use Rattle.sparse_poly.specs.Ideal.{Problem, IsLead, IsInIdeal}
 use Rattle.sparse_poly.proofs.Canonical.{coef-canonical, IsCanonical-canonical}
 use Rattle.sparse_poly.proofs.Closure.{IsInIdeal-scale}
 use Rattle.sparse_poly.proofs.Coef.{total-cut_in, total-cut_out}
@@ -29,11 +29,11 @@ coef-monomial_above p m k a =
     ap (λ b. (cond b 1 0 + 0) % p) (same-false m k (λ s. above_irrefl k (subst (λ x. IsAbove k x) s a))) ∙ zero-mod p
 
 -- it is its own lead
-pub IsLead-monomial : (p n : ℕ) (m : List ℕ) → 2 ≤ p → length m ≡ n → IsLead p n (monomial m) m
-IsLead-monomial p n m two l = record {
+pub IsLead-monomial : (P : Problem) (m : List ℕ) → 2 ≤ P.p → length m ≡ P.n → IsLead P (monomial m) m
+IsLead-monomial P m two l = record {
   in_ring = l;
-  there = λ z. omega (arith, coef-monomial p m two, z);
-  greatest = λ k kl a. coef-monomial_above p m k a;
+  there = λ z. omega (arith, coef-monomial P.p m two, z);
+  greatest = λ k kl a. coef-monomial_above P.p m k a;
 }
 
 -- ---- all terms
@@ -62,7 +62,7 @@ module _ (P : Problem) (Q : Poly → Type 0) (closed : IsClosed P Q) where
   canonical-monomials : (f : Poly) → IsCanonical P.p P.n f → ((k : List ℕ) → length k ≡ P.n → coef P.p f k ≢ 0 → Q (monomial k)) → Q f
   canonical-monomials [] w h = closed.members [] (IsInIdeal-zero P)
   canonical-monomials (t ∷ f) w h =
-      let first = IsLead-canonical P.p P.n t f w in
+      let first = IsLead-canonical P t f w in
       closed.sum (t ∷ []) f
       (subst Q (λ i. record { mono = t.mono; coef = mul-one t.coef i } ∷ []) (closed.scaled t.coef (monomial t.mono) (h t.mono w.0 first.there)))
       (canonical-monomials f w.4 (λ k l n. h k l (rest_there P.p P.n t f k w n)))

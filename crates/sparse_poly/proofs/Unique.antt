@@ -1,11 +1,12 @@
 -- A polynomial that is written in the one way is determined by its coefficients.
 -- The greatest monomial has the first coefficient, so the first terms are the same, and then the rests.
-use Rattle.std.proofs.Common.{◌≡◌, ◌%◌, ℕ, ◌+◌, ◌<◌, ◌≢◌, ◌⊎◌, List, [], ◌∷◌, length, Bool, true, false, cond, refl, ap, sym, ◌∙◌, inl, inr, subst, arith}
+use Rattle.std.proofs.Common.{◌≡◌, ◌%◌, ℕ, ◌+◌, ◌<◌, ◌≢◌, ◌⊎◌, List, [], ◌∷◌, length, get_or, Bool, true, false, cond, refl, ap, sym, ◌∙◌, inl, inr, subst, arith}
 use Rattle.std.proofs.Math.Nat.{zero-mod, mod-eq_of_lt}
 use Rattle.local_order.specs.Mono.{same}
 use Rattle.local_order.specs.Order.{IsAbove}
 use Rattle.local_order.proofs.Order.{above_cases, above_irrefl, above_trans, same_self, same-false}
-use Rattle.sparse_poly.specs.Poly.{Term, Poly, total, IsIn, IsSame, IsLead, IsCanonical, IsBelow}
+use Rattle.sparse_poly.specs.Poly.{Term, Poly, total, coef, IsIn, IsSame, IsCanonical, IsAboveFirst}
+use Rattle.sparse_poly.specs.Ideal.{Problem, IsLead}
 
 -- a canonical polynomial is in n variables
 pub in_of_canonical : (p n : ℕ) (f : Poly) → IsCanonical p n f → IsIn n f
@@ -13,12 +14,12 @@ in_of_canonical p n [] h = tt
 in_of_canonical p n (t ∷ f) h = (h.0, in_of_canonical p n f h.4)
 
 -- a monomial above the first term is above the rest
-pub below-down : (p n : ℕ) (m : List ℕ) (t : Term) (f : Poly) → IsAbove m t.mono → IsBelow t.mono f → IsBelow m f
+pub below-down : (p n : ℕ) (m : List ℕ) (t : Term) (f : Poly) → IsAbove m t.mono → IsAboveFirst t.mono f → IsAboveFirst m f
 below-down p n m t [] h k = tt
 below-down p n m t (s ∷ f) h k = above_trans m t.mono s.mono h k
 
 -- at and above a monomial that is above all, there is nothing
-pub total-above : (p n : ℕ) (f : Poly) (m : List ℕ) → IsCanonical p n f → IsBelow m f → total f m ≡ 0
+pub total-above : (p n : ℕ) (f : Poly) (m : List ℕ) → IsCanonical p n f → IsAboveFirst m f → total f m ≡ 0
 total-above p n [] m w b = refl
 total-above p n (t ∷ f) m w b =
     let off : same t.mono m ≡ false = same-false t.mono m (λ s. above_irrefl m (subst (λ x. IsAbove m x) s b)) in
@@ -87,10 +88,30 @@ canonical_unique p n (t ∷ f) (u ∷ g) v w s =
     tails true x y z w e h = omega arith
     tails false x y z w e h = omega arith
 
--- the first term of a canonical list has its lead
-pub IsLead-canonical : (p n : ℕ) (t : Term) (f : Poly) → IsCanonical p n (t ∷ f) → IsLead p n (t ∷ f) t.mono
-IsLead-canonical p n t f w = record {
+-- ---- leads
+-- a canonical list has the coefficient of its first term at that term's monomial
+pub coef-first : (p n : ℕ) (t : Term) (f : Poly) → IsCanonical p n (t ∷ f) → coef p (t ∷ f) t.mono ≡ t.coef
+coef-first p n t f w = ap (λ x. x % p) (total-head p n t f w) ∙ mod-eq_of_lt w.2
+
+-- the lead of a canonical list is the monomial of its first term
+pub IsLead-canonical : (P : Problem) (t : Term) (f : Poly) → IsCanonical P.p P.n (t ∷ f) → IsLead P (t ∷ f) t.mono
+IsLead-canonical P t f w = record {
   in_ring = w.0;
-  there = λ e. let zero_coef : t.coef ≡ 0 = sym (mod-eq_of_lt w.2) ∙ ap (λ x. x % p) (sym (total-head p n t f w)) ∙ e in omega (arith, w.1);
-  greatest = λ k l a. ap (λ x. x % p) (total-above p n (t ∷ f) k w a) ∙ zero-mod p;
+  there = λ e. omega (arith, coef-first P.p P.n t f w, e, w.1);
+  greatest = λ k l a. ap (λ x. x % P.p) (total-above P.p P.n (t ∷ f) k w a) ∙ zero-mod P.p;
 }
+
+-- a polynomial has one lead at most
+pub one_lead : (P : Problem) (f : Poly) (a b : List ℕ) → IsLead P f a → IsLead P f b → a ≡ b
+one_lead P f a b x y = go (above_cases a b (x.in_ring ∙ sym y.in_ring))
+  where
+    go : (a ≡ b) ⊎ (IsAbove a b ⊎ IsAbove b a) → a ≡ b
+    go (inl e) = e
+    go (inr (inl h)) = absurd (x.there (y.greatest a x.in_ring h))
+    go (inr (inr h)) = absurd (y.there (x.greatest b y.in_ring h))
+
+-- so a canonical list has at its lead the coefficient of its first term
+pub coef-lead : (P : Problem) (t : Term) (f : Poly) (m : List ℕ) → IsCanonical P.p P.n f → t ≡ get_or f 0 t → IsLead P f m → coef P.p f m ≡ t.coef
+coef-lead P t [] m w e x = absurd (x.there (zero-mod P.p))
+coef-lead P t (s ∷ f) m w e x =
+    ap (coef P.p (s ∷ f)) (one_lead P (s ∷ f) m s.mono x (IsLead-canonical P s f w)) ∙ coef-first P.p P.n s f w ∙ ap (λ u. u.coef) (sym e)

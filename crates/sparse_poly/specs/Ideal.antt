@@ -1,10 +1,11 @@
 -- The ideal of a problem modulo degree d + 1, and what is to be computed of it.
 use Rattle.std.specs.Prelude.{◌≡◌, ℕ, ◌≤◌, ◌≢◌, ◌↔◌, List, [], ◌∷◌, length, All, Contains}
+use Rattle.std.specs.List.{AllZip}
 use Rattle.prime_field.specs.Prime.{InTable}
 use Rattle.local_order.specs.Mono.{degree, Divides}
 use Rattle.local_order.specs.Count.{monomial_count}
 use Rattle.local_order.specs.Order.{IsAbove}
-use Rattle.sparse_poly.specs.Poly.{Poly, coef, IsIn, IsSame, cut, combination, IsLead, IsCanonical, HasDegreeAtMost}
+use Rattle.sparse_poly.specs.Poly.{Poly, coef, IsIn, IsSame, cut, combination, IsCanonical, HasDegreeAtMost}
 
 -- a prime, the number of variables, a degree and generators
 pub record Problem : Type 0 where
@@ -26,6 +27,20 @@ pub record IsProblem (P : Problem) : Type 0 where
   pub low : All (HasDegreeAtMost P.d) P.gens
   pub few_gens : length P.gens ≤ 64
 
+-- the ring alone, as the problem without generators
+abbrev pub ring : ℕ → ℕ → Problem
+ring p n = record { p = p; n = n; d = 0; gens = [] }
+
+-- the order of a problem's ring, which is ds: a is the greater. Of all that follows this alone knows which order it is
+abbrev pub IsGreater : Problem → List ℕ → List ℕ → Type 0
+IsGreater P a b = IsAbove a b
+
+-- m is the greatest monomial of f
+pub record IsLead (P : Problem) (f : Poly) (m : List ℕ) : Type 0 where
+  pub in_ring : length m ≡ P.n
+  pub there : coef P.p f m ≢ 0
+  pub greatest : (k : List ℕ) → length k ≡ P.n → IsGreater P k m → coef P.p f k ≡ 0
+
 -- cut g = cut (q_0 * f_0 + q_1 * f_1 + ..) for some polynomials q_i
 pub record IsInIdeal (P : Problem) (g : Poly) : Type 0 where
   pub cofactor : ℕ → Poly
@@ -44,59 +59,56 @@ pub record IsLeadOfIdeal (P : Problem) (m : List ℕ) : Type 0 where
   pub member : Poly
   pub in_ring : IsIn P.n member
   pub is_in : IsInIdeal P member
-  pub lead : IsLead P.p P.n (cut P.d member) m
+  pub lead : IsLead P (cut P.d member) m
 
 -- in falling order, each once
-abbrev pub IsFalling : List (List ℕ) → Type 0
-IsFalling [] = Unit {0}
-IsFalling (a ∷ []) = Unit {0}
-IsFalling (a ∷ b ∷ s) = IsAbove a b × IsFalling (b ∷ s)
+abbrev pub IsFalling : Problem → List (List ℕ) → Type 0
+IsFalling P [] = Unit {0}
+IsFalling P (a ∷ []) = Unit {0}
+IsFalling P (a ∷ b ∷ s) = IsGreater P a b × IsFalling P (b ∷ s)
 
--- the monomials without lead
+-- the monomials of degree at most d that are no leads of the ideal
 pub record IsStaircase (P : Problem) (s : List (List ℕ)) : Type 0 where
-  pub falling : IsFalling s
+  pub falling : IsFalling P s
   pub exactly : (m : List ℕ) → length m ≡ P.n → degree m ≤ P.d → Contains s m ↔ (IsLeadOfIdeal P m → ⊥)
   pub only : (m : List ℕ) → Contains s m → (length m ≡ P.n) × (degree m ≤ P.d)
 
--- every monomial of degree d has lead
+-- every monomial of degree d is a lead of the ideal
 abbrev pub Fits : Problem → Type 0
 Fits P = (m : List ℕ) → length m ≡ P.n → degree m ≡ P.d → IsLeadOfIdeal P m
 
--- the greatest monomial of degree d without lead
+-- the greatest monomial of degree d that is no lead of the ideal
 pub record IsFirstMissing (P : Problem) (m : List ℕ) : Type 0 where
   pub in_ring : length m ≡ P.n
   pub top : degree m ≡ P.d
   pub missing : IsLeadOfIdeal P m → ⊥
-  pub first : (k : List ℕ) → length k ≡ P.n → degree k ≡ P.d → IsAbove k m → IsLeadOfIdeal P k
+  pub first : (k : List ℕ) → length k ≡ P.n → degree k ≡ P.d → IsGreater P k m → IsLeadOfIdeal P k
 
--- m has lead, and no other monomial that divides it has
+-- m is a lead of the ideal, and no other lead divides it
 pub record IsMinimalLead (P : Problem) (m : List ℕ) : Type 0 where
-  pub has : IsLeadOfIdeal P m
+  pub lead : IsLeadOfIdeal P m
   pub least : (k : List ℕ) → length k ≡ P.n → Divides k m → IsLeadOfIdeal P k → k ≡ m
 
--- the leading monomial and the other terms of a written polynomial
-abbrev pub lead_of : Poly → List ℕ
-lead_of [] = []
-lead_of (t ∷ f) = t.mono
-
--- the leading monomials of a list of written polynomials
-abbrev pub leads_of : List Poly → List (List ℕ)
-leads_of [] = []
-leads_of (g ∷ G) = lead_of g ∷ leads_of G
-
--- a member of the reduced basis
-pub record IsReducedMember (P : Problem) (g : Poly) : Type 0 where
+-- g is a member of the reduced standard basis, with the lead m: it is in the ideal, monic, and none of its other
+-- monomials is a lead of the ideal
+pub record IsReducedMember (P : Problem) (g : Poly) (m : List ℕ) : Type 0 where
   pub form : IsCanonical P.p P.n g
   pub is_in : IsInIdeal P g
-  pub low : (m : List ℕ) → length m ≡ P.n → coef P.p g m ≢ 0 → degree m ≤ P.d
-  pub monic : coef P.p g (lead_of g) ≡ 1
-  pub tail : (m : List ℕ) → length m ≡ P.n → coef P.p g m ≢ 0 → m ≢ lead_of g → IsLeadOfIdeal P m → ⊥
+  pub low : (k : List ℕ) → length k ≡ P.n → coef P.p g k ≢ 0 → degree k ≤ P.d
+  pub lead : IsLead P g m
+  pub monic : coef P.p g m ≡ 1
+  pub tail : (k : List ℕ) → length k ≡ P.n → coef P.p g k ≢ 0 → k ≢ m → IsLeadOfIdeal P k → ⊥
 
--- the reduced standard basis
+-- the reduced standard basis: its members have falling leads, and these are the minimal leads of the ideal
 pub record IsReducedBasis (P : Problem) (G : List Poly) : Type 0 where
-  pub members : (g : Poly) → Contains G g → IsReducedMember P g
-  pub falling : IsFalling (leads_of G)
-  pub leads : (m : List ℕ) → Contains (leads_of G) m ↔ IsMinimalLead P m
+  pub leads : List (List ℕ)
+  pub members : AllZip (IsReducedMember P) G leads
+  pub falling : IsFalling P leads
+  pub minimal : (m : List ℕ) → Contains leads m ↔ IsMinimalLead P m
+
+-- the lead of one of the polynomials divides m
+abbrev pub IsMultipleOfLead : Problem → List Poly → List ℕ → Type 0
+IsMultipleOfLead P G m = (g : Poly) × (k : List ℕ) × Contains G g × IsLead P g k × Divides k m
 
 -- g is in the ideal modulo each degree
 abbrev pub IsInLocalIdeal : ℕ → ℕ → List Poly → Poly → Type 0

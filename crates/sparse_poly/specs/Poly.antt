@@ -1,5 +1,5 @@
 -- Polynomials over the numbers modulo p, by their terms.
-use Rattle.std.specs.Prelude.{◌≡◌, ℕ, zero, suc, ◌+◌, ◌-◌, ◌*◌, ◌%◌, ◌<◌, ◌≤◌, ◌≢◌, List, [], ◌∷◌, ◌++◌, length, All, slice_index, slice_set, cond, leb}
+use Rattle.std.specs.Prelude.{◌≡◌, ℕ, zero, suc, ◌+◌, ◌-◌, ◌*◌, ◌%◌, ◌<◌, ◌≤◌, List, [], ◌∷◌, ◌++◌, length, All, slice_index, slice_set, cond, leb}
 use Rattle.sparse_poly.specs.declared.term.PolyTerm.{PolyTerm}
 use Rattle.local_order.specs.Mono.{degree, mono_one, mono_times, same}
 use Rattle.local_order.specs.Order.{IsAbove}
@@ -85,23 +85,13 @@ abbrev pub combination : (ℕ → Poly) → List Poly → Poly
 combination q [] = []
 combination q (f ∷ fs) = times (q 0) f ++ combination (λ i. q (suc i)) fs
 
--- the leading coefficient of a canonical polynomial
-abbrev pub lead_coef : Poly → ℕ
-lead_coef [] = 0
-lead_coef (t ∷ f) = t.coef
+-- m is above the first monomial of f in the order ds, if f has one
+abbrev pub IsAboveFirst : List ℕ → Poly → Type 0
+IsAboveFirst m [] = Unit {0}
+IsAboveFirst m (t ∷ f) = IsAbove m t.mono
 
--- m is the greatest monomial of f
-pub record IsLead (p n : ℕ) (f : Poly) (m : List ℕ) : Type 0 where
-  pub in_ring : length m ≡ n
-  pub there : coef p f m ≢ 0
-  pub greatest : (k : List ℕ) → length k ≡ n → IsAbove k m → coef p f k ≡ 0
-
--- m is above each monomial of f
-abbrev pub IsBelow : List ℕ → Poly → Type 0
-IsBelow m [] = Unit {0}
-IsBelow m (t ∷ f) = IsAbove m t.mono
-
--- f is written in the one way that a `Poly` has: terms in falling order, with coefficients from 1 to p - 1
+-- f is written in the one way that a `Poly` has, whichever order a problem has: terms falling in the order ds, with
+-- coefficients from 1 to p - 1
 abbrev pub IsCanonical : ℕ → ℕ → Poly → Type 0
 IsCanonical p n [] = Unit {0}
-IsCanonical p n (t ∷ f) = (length t.mono ≡ n) × (0 < t.coef) × (t.coef < p) × IsBelow t.mono f × IsCanonical p n f
+IsCanonical p n (t ∷ f) = (length t.mono ≡ n) × (0 < t.coef) × (t.coef < p) × IsAboveFirst t.mono f × IsCanonical p n f

@@ -3,9 +3,9 @@
 
 ghost use Rattle.std.specs.Prelude.{◌≡◌, ◌↔◌, ◌+◌, ◌-◌, ◌*◌, ◌%◌, ◌<◌, ◌≤◌, ℕ, List, [], ◌∷◌, ◌++◌, length, All, Contains, slice_index, slice_set};
 ghost use Rattle.local_order.specs.Mono.{degree, mono_times, Divides};
-ghost use Rattle.sparse_poly.specs.Poly.{Term, Poly, coef, cut, derivative, one, power, term_times, times, HasDegreeAtMost, IsCanonical, IsIn, IsLead, IsSame};
+ghost use Rattle.sparse_poly.specs.Poly.{Term, Poly, coef, cut, derivative, one, power, term_times, times, HasDegreeAtMost, IsCanonical, IsIn, IsSame};
 ghost use Rattle.sparse_poly.specs.Canonical.{canonical};
-ghost use Rattle.sparse_poly.specs.Ideal.{Problem, IsInIdeal, HasCanonicalCofactors};
+ghost use Rattle.sparse_poly.specs.Ideal.{Problem, IsLead, IsInIdeal, HasCanonicalCofactors};
 ghost use Rattle.sparse_poly.specs.Span.{Span, AreMultiples};
 
 /// The coefficients of a sum are the sums of the coefficients.
@@ -67,7 +67,7 @@ pub fn canonical_lists()
     ensures form { (p n : ℕ) (f : Poly) → 0 < p → IsIn n f → IsCanonical p n (canonical p f) }
     ensures only { (p n : ℕ) (f g : Poly) → 0 < p → IsCanonical p n f → IsCanonical p n g → IsSame p n f g
         → f ≡ g }
-    ensures lead { (p n : ℕ) (t : Term) (f : Poly) → IsCanonical p n (t ∷ f) → IsLead p n (t ∷ f) t.mono }
+    ensures lead { (P : Problem) (t : Term) (f : Poly) → IsCanonical P.p P.n (t ∷ f) → IsLead P (t ∷ f) t.mono }
 {}
 
 /// The polynomials of the ideal modulo a degree are an ideal, in which the generators lie.

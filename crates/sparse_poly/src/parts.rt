@@ -1,9 +1,10 @@
 //! What one polynomial gives: its part up to a degree, its derivatives and its monic multiple.
 
-ghost use Rattle.std.specs.Prelude.{◌≡◌, ◌≢◌, ℕ, ◌<◌, ◌≤◌, [], IfOk};
+ghost use Rattle.std.specs.Prelude.{◌≡◌, ◌≢◌, ℕ, ◌<◌, ◌≤◌, List, [], IfOk};
 ghost use Rattle.prime_field.specs.Inverse.{inverse};
-ghost use Rattle.sparse_poly.specs.Poly.{cut, derivative, lead_coef, term_times, IsCanonical};
+ghost use Rattle.sparse_poly.specs.Poly.{coef, cut, derivative, term_times, IsCanonical};
 ghost use Rattle.sparse_poly.specs.Canonical.{canonical};
+ghost use Rattle.sparse_poly.specs.Ideal.{ring, IsLead};
 
 use crate::monomials;
 use crate::multiples::{push_term, scaled};
@@ -58,12 +59,14 @@ impl Poly {
     pub fn monic(&self, alloc: Global, field: &Field) -> Result<Poly, AllocError>
         requires own { IsCanonical field.now self.now.n self.now.terms }
         requires some { self.now.terms ≢ [] }
-        ensures value { IfOk result (λ f. f ≡ record {
-          n = self.now.n;
-          terms = canonical field.now (term_times (inverse field.now (lead_coef self.now.terms)) [] self.now.terms);
-        }) }
+        ensures value { IfOk result (λ f. (m : List ℕ) → IsLead (ring field.now self.now.n) self.now.terms m
+            → f ≡ record {
+              n = self.now.n;
+              terms = canonical field.now (term_times (inverse field.now (coef field.now self.now.terms m)) [] self.now.terms);
+            }) }
         ensures canonical { IfOk result (λ f. IsCanonical field.now f.n f.terms) }
-        ensures lead { IfOk result (λ f. lead_coef f.terms ≡ 1) }
+        ensures lead { IfOk result (λ f. (m : List ℕ) → IsLead (ring field.now self.now.n) self.now.terms m
+            → coef field.now f.terms m ≡ 1) }
     {
         let factor = field.inv(self.terms[0].coef);
         let terms = scaled(alloc, field, factor, &self.terms)?;

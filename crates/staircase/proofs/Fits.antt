@@ -12,7 +12,7 @@ use Rattle.sparse_poly.proofs.Induction.{falling_induction}
 use Rattle.sparse_poly.proofs.Terms.{IsLead-monomial, IsClosed-ideal}
 
 module _ (P : Problem) (prime : IsPrime P.p) where
-  -- each monomial of degree d is in the ideal where each has lead
+  -- each monomial of degree d is in the ideal where each is a lead of it
   all_in : Fits P → (m : List ℕ) → length m ≡ P.n → degree m ≡ P.d → IsInIdeal P (monomial m)
   all_in fits m l top =
       falling_induction P.n P.d (λ m. degree m ≡ P.d → IsInIdeal P (monomial m))
@@ -21,9 +21,9 @@ module _ (P : Problem) (prime : IsPrime P.p) where
       (λ k kl kd a. later k kl kd a (omega (arith, degree_of_above m k a, top, kd))))
       m l (omega arith) top
 
-  -- and has lead where it is in the ideal
+  -- and is a lead of the ideal where it is in the ideal
   lead_of_in : (m : List ℕ) → length m ≡ P.n → degree m ≡ P.d → IsInIdeal P (monomial m) → IsLeadOfIdeal P m
-  lead_of_in m l top h = IsLeadOfIdeal-member P (monomial m) m (l, tt) h (omega arith) (IsLead-monomial P.p P.n m prime.two_up l)
+  lead_of_in m l top h = IsLeadOfIdeal-member P (monomial m) m (l, tt) h (omega arith) (IsLead-monomial P m prime.two_up l)
 
   -- so both say the same
   pub fits_is : Fits P ↔ ((m : List ℕ) → length m ≡ P.n → degree m ≡ P.d → IsInIdeal P (monomial m))

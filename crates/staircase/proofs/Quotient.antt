@@ -7,9 +7,9 @@ use Rattle.prime_field.specs.Prime.{IsPrime}
 use Rattle.prime_field.proofs.Residue.{add_same, mul_same}
 use Rattle.local_order.specs.Mono.{degree, same}
 use Rattle.local_order.proofs.Order.{degree_of_above, same-true}
-use Rattle.sparse_poly.specs.Poly.{Poly, total, coef, cut, IsIn, IsLead, IsCanonical}
+use Rattle.sparse_poly.specs.Poly.{Poly, total, coef, cut, IsIn, IsCanonical}
 use Rattle.sparse_poly.specs.Canonical.{canonical}
-use Rattle.sparse_poly.specs.Ideal.{Problem, IsInIdeal, IsStaircase, IsReducedBasis}
+use Rattle.sparse_poly.specs.Ideal.{Problem, IsLead, IsInIdeal, IsStaircase, IsReducedBasis}
 use Rattle.sparse_poly.proofs.Canonical.{coef-canonical, IsCanonical-canonical}
 use Rattle.sparse_poly.proofs.Coef.{total-append, total-cut_in, total-cut_out}
 use Rattle.sparse_poly.proofs.Cuts.{in-cut}
@@ -22,8 +22,7 @@ use Rattle.sparse_poly.specs.Poly.{monomial}
 use Rattle.staircase.specs.Quotient.{IsMadeOf, HasRemainder}
 use Rattle.sparse_poly.proofs.Descent.{coef-scale_zero, from_lead}
 use Rattle.sparse_poly.proofs.Difference.{difference, difference-sum}
-use Rattle.staircase.proofs.Divisors.{basis_cases, lead_of_divided, staircase_by_basis}
-use Rattle.sparse_poly.proofs.Falling.{among_of_contains}
+use Rattle.staircase.proofs.Divisors.{lead_of_divided, divided_or_in_staircase}
 use Rattle.sparse_poly.proofs.Leads.{IsLeadOfIdeal-member}
 use Rattle.sparse_poly.proofs.Induction.{falling_induction}
 use Rattle.sparse_poly.proofs.Terms.{IsClosed, by_monomials}
@@ -47,7 +46,7 @@ independent P s f pos x i h made = go (canonical P.p (cut P.d f)) refl (IsCanoni
     go : (g : Poly) → canonical P.p (cut P.d f) ≡ g → IsCanonical P.p P.n g → Agree P f []
     go [] q w = λ m l low. at [] q m low
     go (t ∷ g) q w =
-        let lead : IsLead P.p P.n (t ∷ g) t.mono = IsLead-canonical P.p P.n t g w in
+        let lead : IsLead P (t ∷ g) t.mono = IsLead-canonical P t g w in
         let low : degree t.mono ≤ P.d = low_of (t ∷ g) q t.mono lead.there in
         let there : Contains s t.mono = made t.mono w.0 low (λ z. lead.there (sym (at (t ∷ g) q t.mono low) ∙ z)) in
         absurd ((x.exactly t.mono w.0 low).0 there
@@ -170,8 +169,8 @@ module _ (P : Problem) (G : List Poly) (basis : IsReducedBasis P G) (gens : AllI
       (λ m l low later.
       ⊎_elim
       (λ d. from_lead P (Splits P s) (IsClosed-splits P s) prime m l (lead_of_divided P G basis gens m l low d) later)
-      (λ none. splits-monomial P s m l ((staircase_by_basis P G basis gens s m x l low).1 (λ k c d. none (k, among_of_contains _ k c, d))))
-      (basis_cases P G basis m l))
+      (λ there. splits-monomial P s m l there)
+      (divided_or_in_staircase P G basis gens s m x l low))
 
   -- so each polynomial has a remainder
   pub spanning : (f : Poly) → IsIn P.n f → HasRemainder P s f

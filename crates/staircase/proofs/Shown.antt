@@ -5,12 +5,11 @@ use Rattle.std.specs.List.{Contains}
 use Rattle.std.proofs.lemmas.List.{length-map, get_or-map}
 use Rattle.std.proofs.lemmas.List.Elements.{Contains-get_or}
 use Rattle.local_order.specs.Mono.{degree}
-use Rattle.local_order.specs.Order.{IsAbove}
 use Rattle.mono_rank.specs.Rank.{HasRank, rank_of, mono_of_rank}
 use Rattle.mono_rank.specs.Cover.{IsMultiple}
 use Rattle.mono_rank.proofs.ByRank.{mono_of_rank-is}
 use Rattle.mono_rank.proofs.Ranks.{rank_above, above_of_rank}
-use Rattle.sparse_poly.specs.Ideal.{Problem, IsLeadOfIdeal, IsFalling, IsStaircase, Fits, IsFirstMissing}
+use Rattle.sparse_poly.specs.Ideal.{Problem, IsGreater, IsLeadOfIdeal, IsFalling, IsStaircase, Fits, IsFirstMissing}
 use Rattle.staircase.specs.Stair.{IsRising, IsStairOf, is_of_degree, IsLeastOfDegree, ShowLeads}
 use Rattle.staircase.proofs.Decided.{in_rest, multiple_decided}
 use Rattle.staircase.proofs.Degrees.{of_degree_is}
@@ -30,16 +29,16 @@ unmapped f rs m (k, l, e) =
     (get_or rs k 0, Contains-get_or rs k 0 within, sym (get_or-map f rs k 0 m within) ∙ e)
 
 -- monomials of rising ranks fall
-falls : (n d : ℕ) (rs : List ℕ) → IsRising rs → ((r : ℕ) → Contains rs r → HasRank n d (mono_of_rank n d r) r) → IsFalling (map (mono_of_rank n d) rs)
-falls n d [] h has = tt
-falls n d (a ∷ []) h has = tt
-falls n d (a ∷ b ∷ rs) h has = (first, falls n d (b ∷ rs) (rising_rest a (b ∷ rs) h) (λ r c. has r (in_rest a r (b ∷ rs) c)))
+falls : (P : Problem) (rs : List ℕ) → IsRising rs → ((r : ℕ) → Contains rs r → HasRank P.n P.d (mono_of_rank P.n P.d r) r) → IsFalling P (map (mono_of_rank P.n P.d) rs)
+falls P [] h has = tt
+falls P (a ∷ []) h has = tt
+falls P (a ∷ b ∷ rs) h has = (first, falls P (b ∷ rs) (rising_rest a (b ∷ rs) h) (λ r c. has r (in_rest a r (b ∷ rs) c)))
   where
-    first : IsAbove (mono_of_rank n d a) (mono_of_rank n d b)
+    first : IsGreater P (mono_of_rank P.n P.d a) (mono_of_rank P.n P.d b)
     first =
         let ha = has a (0, omega arith, refl) in
         let hb = has b (1, omega arith, refl) in
-        above_of_rank n d (mono_of_rank n d a) (mono_of_rank n d b) ha.in_ring hb.in_ring hb.low (omega (arith, ha.rank, hb.rank, h.rising 0 1 (omega arith) (omega arith)))
+        above_of_rank P.n P.d (mono_of_rank P.n P.d a) (mono_of_rank P.n P.d b) ha.in_ring hb.in_ring hb.low (omega (arith, ha.rank, hb.rank, h.rising 0 1 (omega arith) (omega arith)))
 
 module _ (P : Problem) (leads ranks : List ℕ) (some : 1 ≤ P.n) (shown : ShowLeads P leads) (S : IsStairOf P.n P.d leads ranks) where
   -- each rank of the staircase is that of a monomial that is no multiple
@@ -60,7 +59,7 @@ module _ (P : Problem) (leads ranks : List ℕ) (some : 1 ≤ P.n) (shown : Show
   -- the monomials of the ranks are the staircase of the ideal
   pub stair_is : IsStaircase P (map (mono_of_rank P.n P.d) ranks)
   stair_is = record {
-    falling = falls P.n P.d ranks S.rises (λ r c. (ranked r c).0);
+    falling = falls P ranks S.rises (λ r c. (ranked r c).0);
     exactly = λ m e low. (
       λ c h. let x = unmapped (mono_of_rank P.n P.d) ranks m c in no_lead x.0 x.1 (subst (IsLeadOfIdeal P) (sym x.2) h),
       λ outside. subst (Contains (map (mono_of_rank P.n P.d) ranks)) (mono_of_rank-is P.n P.d m (rank_of P.n P.d m) (record { in_ring = e; low = low; rank = refl }))
@@ -101,7 +100,7 @@ module _ (P : Problem) (leads ranks : List ℕ) (some : 1 ≤ P.n) (shown : Show
       h : HasRank P.n P.d m r
       h = (ranked r l.there).0
 
-      first : (k : List ℕ) → length k ≡ P.n → degree k ≡ P.d → IsAbove k m → IsLeadOfIdeal P k
+      first : (k : List ℕ) → length k ≡ P.n → degree k ≡ P.d → IsGreater P k m → IsLeadOfIdeal P k
       first k e top up = lead_or_in k e (omega (arith, top)) (λ c.
           let j : HasRank P.n P.d k (rank_of P.n P.d k) = record { in_ring = e; low = omega (arith, top); rank = refl } in
           omega (arith, l.least (rank_of P.n P.d k) c ((of_degree_is P.n P.d k (rank_of P.n P.d k) P.d some j).1 top), rank_above P.n P.d k m e (omega (arith, top)) up, h.rank))

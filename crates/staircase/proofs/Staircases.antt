@@ -17,7 +17,7 @@ over P s t x y m h =
 
 -- so they are the same
 pub one_staircase : (P : Problem) (s t : List (List ℕ)) → IsStaircase P s → IsStaircase P t → s ≡ t
-one_staircase P s t x y = falling_same s t x.falling y.falling (over P s t x y) (over P t s y x)
+one_staircase P s t x y = falling_same P s t x.falling y.falling (over P s t x y) (over P t s y x)
 
 -- two first missing monomials are the same
 pub one_missing : (P : Problem) (m k : List ℕ) → IsFirstMissing P m → IsFirstMissing P k → m ≡ k

@@ -5,7 +5,7 @@ ghost use Rattle.std.specs.Prelude.{◌≡◌, ◌↔◌, ◌+◌, ◌-◌, ◌<
 ghost use Rattle.prime_field.specs.Prime.{IsPrime};
 ghost use Rattle.local_order.specs.Mono.{degree, Divides};
 ghost use Rattle.sparse_poly.specs.Poly.{Poly, IsIn};
-ghost use Rattle.sparse_poly.specs.Ideal.{Problem, IsInIdeal, IsLeadOfIdeal, IsStaircase, Fits, IsFirstMissing, IsReducedBasis, leads_of};
+ghost use Rattle.sparse_poly.specs.Ideal.{Problem, IsInIdeal, IsLeadOfIdeal, IsStaircase, Fits, IsFirstMissing, IsReducedBasis, IsMultipleOfLead};
 ghost use Rattle.sparse_poly.specs.Span.{Agree};
 ghost use Rattle.mono_rank.specs.Rank.{HasRank, mono_of_rank};
 ghost use Rattle.mono_rank.specs.Cover.{IsCorner};
@@ -48,14 +48,15 @@ pub fn leads_are_closed()
         → length a ≡ P.n → Divides a m → Contains s m → Contains s a }
 {}
 
-/// Up to degree d the leads are the monomials that a lead of the reduced basis divides, and the staircase has the others.
+/// Up to degree d the leads of the ideal are the monomials that a lead of the reduced basis divides, and the staircase has
+/// the others.
 pub fn basis_shows_leads()
     ensures leads { (P : Problem) (G : List Poly) (m : List ℕ) → All (IsIn P.n) P.gens → IsReducedBasis P G
         → length m ≡ P.n → degree m ≤ P.d
-        → IsLeadOfIdeal P m ↔ ((k : List ℕ) × Contains (leads_of G) k × Divides k m) }
+        → IsLeadOfIdeal P m ↔ IsMultipleOfLead P G m }
     ensures staircase { (P : Problem) (G : List Poly) (s : List (List ℕ)) (m : List ℕ) → All (IsIn P.n) P.gens
         → IsReducedBasis P G → IsStaircase P s → length m ≡ P.n → degree m ≤ P.d
-        → Contains s m ↔ ((k : List ℕ) → Contains (leads_of G) k → ¬ Divides k m) }
+        → Contains s m ↔ (¬ IsMultipleOfLead P G m) }
 {}
 
 /// The monomials of the staircase are a basis of the polynomials modulo the ideal and degree d + 1: no combination of them

@@ -13,7 +13,7 @@ pub returns-clause-only : goal.returns-clause-only
 returns-clause-only c p n f g pos v w s = canonical_unique p n f g v w (same_total p n f g pos v w s)
 
 pub returns-clause-lead : goal.returns-clause-lead
-returns-clause-lead c p n t f w = IsLead-canonical p n t f w
+returns-clause-lead c P t f w = IsLead-canonical P t f w
 
 pub returns-clause-degree : goal.returns-clause-degree
 returns-clause-degree c p d f h = HasDegreeAtMost-canonical p d f h
