@@ -7,22 +7,23 @@ use Rattle.std.proofs.lemmas.List.{append-nil, take_all}
 use Rattle.std.proofs.lemmas.List.Elements.{All-more, Contains-append_left, Contains-push}
 use Rattle.std.proofs.lemmas.Option.{slice_get_within, get_or_from_slice_get}
 use Rattle.sparse_poly.specs.Ideal.{Fits}
-use Rattle.script_grammar.specs.declared.script.Subject.{Subject}
 use Rattle.script_grammar.specs.declared.script.Command.{Command}
 use Rattle.script_grammar.specs.declared.script.Script.{Script}
-use Rattle.local_std.specs.Answer.{OfIdeal, IsBlock, AreBlocks, AllFit, SomeIsSmall}
+use Rattle.local_std.specs.Answer.{problem_of, IsBlock, AreBlocks, AllFit, SomeIsSmall}
 
-abbrev pub IsFitting : Subject → Type 0
-IsFitting subject = OfIdeal Fits subject
+-- the degree fits for a command
+abbrev pub IsFitting : Script → Command → Type 0
+IsFitting s c = Fits (problem_of s c)
 
-abbrev pub IsSmall : Subject → Type 0
-IsSmall subject = OfIdeal (λ P. Fits P → ⊥) subject
+-- it is too small for it
+abbrev pub IsSmall : Script → Command → Type 0
+IsSmall s c = Fits (problem_of s c) → ⊥
 
 -- the text has the blocks of these commands, and the flag says whether the degree fits for each
 pub record AreDone (s : Script) (cs : List Command) (text : List ℕ) (fits : Bool) : Type 0 where
   pub blocks : AreBlocks s 1 cs text
-  pub fit : OnTrue fits (AllFit cs)
-  pub small : OnFalse fits (SomeIsSmall cs)
+  pub fit : OnTrue fits (AllFit s cs)
+  pub small : OnFalse fits (SomeIsSmall s cs)
 
 -- the first commands, with the one at the next place
 pub first_and_next : (cs : List Command) (k : ℕ) (c : Command) → slice_get cs k ≡ Some c → take (k + 1) cs ≡ take k cs ++ c ∷ []
@@ -53,22 +54,22 @@ module _ (s : Script) (cs : List Command) (k : ℕ) (c : Command) (at : slice_ge
       (blocks_push s 1 (take k cs) c text block are (subst (λ m. IsBlock s m c block) n is))
 
   -- where k commands fit and the next does, one command more fit
-  fit_next : AllFit (take k cs) → IsFitting c.subject → AllFit (take (k + 1) cs)
+  fit_next : AllFit s (take k cs) → IsFitting s c → AllFit s (take (k + 1) cs)
   fit_next all one =
-      All-more (λ (e : Command). IsFitting e.subject) cs k c (slice_get_within cs k c at) all
-      (subst (λ (e : Command). IsFitting e.subject) (sym (get_or_from_slice_get cs k c c at)) one)
+      All-more (IsFitting s) cs k c (slice_get_within cs k c at) all
+      (subst (IsFitting s) (sym (get_or_from_slice_get cs k c c at)) one)
 
   -- what is too small among k commands is so among one more
-  small_before : SomeIsSmall (take k cs) → SomeIsSmall (take (k + 1) cs)
+  small_before : SomeIsSmall s (take k cs) → SomeIsSmall s (take (k + 1) cs)
   small_before (e, there, small) =
       (e, subst (λ l. Contains l e) (sym (first_and_next cs k c at)) (Contains-append_left (take k cs) (c ∷ []) e there), small)
 
   -- and where the next command is too small, one among these is
-  small_here : IsSmall c.subject → SomeIsSmall (take (k + 1) cs)
+  small_here : IsSmall s c → SomeIsSmall s (take (k + 1) cs)
   small_here small = (c, subst (λ l. Contains l c) (sym (first_and_next cs k c at)) (Contains-push (take k cs) c), small)
 
   -- one command more
-  pub one_more : (fits here : Bool) → AreDone s (take k cs) text fits → OnTrue here (IsFitting c.subject) → OnFalse here (IsSmall c.subject) → AreDone s (take (k + 1) cs) (text ++ block) (fits && here)
+  pub one_more : (fits here : Bool) → AreDone s (take k cs) text fits → OnTrue here (IsFitting s c) → OnFalse here (IsSmall s c) → AreDone s (take (k + 1) cs) (text ++ block) (fits && here)
   one_more true true done fit small = record { blocks = blocks_next done.blocks; fit = fit_next done.fit fit; small = tt }
   one_more true false done fit small = record { blocks = blocks_next done.blocks; fit = tt; small = small_here small }
   one_more false here done fit small = record { blocks = blocks_next done.blocks; fit = tt; small = small_before done.small }

@@ -1,10 +1,10 @@
--- What is due after each part of the call.
-use Rattle.std.proofs.Common.{◌≡◌, ◌⊎◌, inl, inr, ℕ, List, [], ◌≤◌, ◌<◌, length, refl, Bool, true, false, if◌then◌else◌, Some, None, Result, Ok, Err, ⊎_elim, ap, sym, ◌∙◌, arith, length-append, IfSome, subst}
+-- What is due after each part of the call. The reader's answer gives the tree or the first refusal, the blocks give the verdict
+-- and the text; a source that tells its bytes gave all of them, so a script within the limits is answered.
+use Rattle.std.proofs.Common.{◌≡◌, ◌⊎◌, inl, inr, ℕ, List, [], ◌≤◌, ◌<◌, length, refl, Bool, true, false, if◌then◌else◌, Some, None, Result, Ok, Err, ap, sym, ◌∙◌, arith, length-append, IfSome, subst}
 use Rattle.std.proofs.KnownBytes.{Consumes-all}
 use Rattle.std.specs.Bool.{OnTrue, OnFalse}
 use Rattle.std.specs.declared.option.Option.{Option}
 use Rattle.std.specs.Io.KnownBytes.{Consumes}
-use Rattle.io_edge.specs.Faults.{Rose}
 use Rattle.io_edge.specs.Reads.{Gave}
 use Rattle.script_grammar.specs.declared.refusal.Refusal.{Refusal}
 use Rattle.script_grammar.specs.declared.refusal.ReadKind.{ReadKind}
@@ -24,13 +24,18 @@ use Rattle.local_std.specs.declared.outcome.Status.TheVariants.{Fits, Rejected, 
 use Rattle.local_std.specs.declared.words.Request.{Request as Asked}
 use Rattle.local_std.specs.declared.words.Request.TheVariants.{Solve}
 use Rattle.local_std.specs.View.{request_in}
-use Rattle.local_std.specs.Words.{solve, Asks, InGrammar}
+use Rattle.local_std.specs.Words.{Request, solve, Asks, InGrammar}
 use Rattle.local_std.specs.Built.{AllBuilt, IsFirstUnbuilt}
-use Rattle.local_std.specs.Answer.{IsAnswer, AllFit, SomeIsSmall}
+use Rattle.local_std.specs.Endings.{HasText, IsAnswered}
+use Rattle.local_std.specs.Lent.{Lent, IsUntouched, HasFailed, HasGiven}
+use Rattle.local_std.specs.Answer.{IsAnswer, AllFit, SomeIsSmall, IsVerdict}
 use Rattle.local_std.specs.Texts.{usage_line, too_long_line, not_built_line, refusal_line}
-use Rattle.local_std.specs.Due.{Due, SolveDue, Served, max_script, IsSolved, Ends, IsScriptOf, IsRefused, IsNotBuilt}
+use Rattle.local_std.specs.Scripts.{IsScriptOf, IsTooLong, IsRefused, IsNotBuilt}
+use Rattle.local_std.specs.Due.{limit_of, RequestDue, Offers, Admits, Served, Due, IsBrokenOff, IsCut, Ends}
 use Rattle.local_std.proofs.Built.{built_no}
-use Rattle.local_std.proofs.Ends.{IsTold}
+
+abbrev script_limit : ℕ
+script_limit = limit_of solve
 
 -- ---- what is due for the bytes of a script
 -- the first refusal, from what is read
@@ -41,21 +46,22 @@ refused_of bytes f e = go (script_of bytes) e
     go (Ok t) h = absurd cc
     go (Err g) h = let e : g ≡ f = cc (h) in ap (λ x. Err x) e
 
-module _ (bytes : List ℕ) (few : length bytes ≤ max_script) where
+module _ (bytes : List ℕ) (few : length bytes ≤ script_limit) where
   -- a refusal that holds of the bytes, and of every tree they might be a script of, is what is due for them
   pub refused : (line column : ℕ) (kind : ReadKind) (text : List ℕ) → text ≡ refusal_line line column kind →
-      Refuses bytes (errors.At line column kind) (asked_by bytes) → ((t : Tree) → IsScript bytes t → Refuses bytes (errors.At line column kind) (Ok (meaning t))) → SolveDue bytes Input text []
-  refused line column kind text spelled (f, is, at) only = (
-    inr (inl (record {
+      Refuses bytes (errors.At line column kind) (asked_by bytes) → ((t : Tree) → IsScript bytes t → Refuses bytes (errors.At line column kind) (Ok (meaning t))) → RequestDue solve bytes Input text []
+  refused line column kind text spelled (f, is, at) only = inl (record {
+    refused = refl;
+    why = inr (inl (record {
       few = few;
       none = λ t s. absurd (cc (only t s).1);
       refusal = f;
       refuses = refused_of bytes f is;
       first = first_is bytes f (refused_of bytes f is);
       spelled = spelled ∙ same;
-    })),
-    refl,
-  )
+    }));
+    uncertified = refl;
+  })
     where
       same : refusal_line line column kind ≡ refusal_line (position_of bytes f).0 (position_of bytes f).1 f.kind
       same =
@@ -67,66 +73,80 @@ module _ (bytes : List ℕ) (few : length bytes ≤ max_script) where
           ∙ ap (λ n. refusal_line (position_of bytes f).0 (position_of bytes f).1 n) k
 
   module _ (tree : Tree) (is : IsScript bytes tree) where
-    script_is : IsScriptOf bytes tree
+    script_is : IsScriptOf script_limit bytes tree
     script_is = record { few = few; is_script = is; only = λ other o. script_once bytes other tree o is }
 
-    pub not_built : (s : Script) → s ≡ meaning tree → (word : Word) → IsFirstUnbuilt s.commands word → (text : List ℕ) → text ≡ not_built_line word → SolveDue bytes Input text []
-    not_built s e word first text spelled = (
-      inr (inr (record {
+    pub not_built : (s : Script) → s ≡ meaning tree → (word : Word) → IsFirstUnbuilt s.commands word → (text : List ℕ) → text ≡ not_built_line word → RequestDue solve bytes Input text []
+    not_built s e word first text spelled = inl (record {
+      refused = refl;
+      why = inr (inr (record {
         tree = tree;
         script = script_is;
         word = word;
         first = subst (λ (z : Script). IsFirstUnbuilt z.commands word) e first;
         spelled = spelled;
-      })),
-      refl,
-    )
+      }));
+      uncertified = refl;
+    })
 
-    pub solved : (s : Script) → s ≡ meaning tree → AllBuilt s.commands → (fits : Bool) → OnTrue fits (AllFit s.commands) → OnFalse fits (SomeIsSmall s.commands) → (text : List ℕ) → IsAnswer s text → SolveDue bytes (if fits then Fits else TooSmall) text []
-    solved s e built true fit small text answer = record {
+    -- the verdict that the flag gives
+    verdict_of : (s : Script) (fits : Bool) → OnTrue fits (AllFit s s.commands) → OnFalse fits (SomeIsSmall s s.commands) → IsVerdict s (if fits then Fits else TooSmall)
+    verdict_of s true fit small = fit
+    verdict_of s false fit small = small
+
+    pub solved : (s : Script) → s ≡ meaning tree → AllBuilt s.commands → (fits : Bool) → OnTrue fits (AllFit s s.commands) → OnFalse fits (SomeIsSmall s s.commands) → (text : List ℕ) → IsAnswer s text → RequestDue solve bytes (if fits then Fits else TooSmall) text []
+    solved s e built fits fit small text answer = inr (record {
       tree = tree;
       script = script_is;
       built = subst (λ (z : Script). AllBuilt z.commands) e built;
-      commands = subst (λ (z : Script). AllFit z.commands) e fit;
-      answer = subst (λ z. IsAnswer z text) e answer;
-      certificate = refl;
-    }
-    solved s e built false fit small text answer = record {
-      tree = tree;
-      script = script_is;
-      built = subst (λ (z : Script). AllBuilt z.commands) e built;
-      commands = subst (λ (z : Script). SomeIsSmall z.commands) e small;
-      answer = subst (λ z. IsAnswer z text) e answer;
-      certificate = refl;
-    }
+      answer = record {
+        verdict = subst (λ z. IsVerdict z (if fits then Fits else TooSmall)) e (verdict_of s fits fit small);
+        answer = subst (λ z. IsAnswer z text) e answer;
+        certificate = refl;
+      };
+    })
+
+-- a verdict comes with a text
+verdict_text : (s : Script) (status : Status) → IsVerdict s status → HasText status
+verdict_text s Fits v = tt
+verdict_text s TooSmall v = tt
+verdict_text s Rejected v = tt
+verdict_text s Input v = tt
+verdict_text s Usage v = tt
+verdict_text s Memory v = v
+verdict_text s ReadFault v = v
+verdict_text s WriteFault v = v
 
 -- what is due for a script comes with a text
-pub told_of : (input : List ℕ) (status : Status) (text proof : List ℕ) → SolveDue input status text proof → IsTold status
-told_of input Fits text proof d = tt
-told_of input Rejected text proof d = tt
-told_of input Input text proof d = tt
-told_of input TooSmall text proof d = tt
-told_of input Memory text proof d = d
-told_of input ReadFault text proof d = d
-told_of input WriteFault text proof d = d
-told_of input Usage text proof d = tt
+pub text_due : (input : List ℕ) (status : Status) (text proof : List ℕ) → RequestDue solve input status text proof → HasText status
+text_due input status text proof (inl unread) = subst HasText (sym unread.refused) tt
+text_due input status text proof (inr read) = verdict_text (meaning read.tree) status read.answer.verdict
 
 -- ---- what is due for a request
-module _ {S : Type 0} (left : S → Option (List ℕ)) (before now : S) where
+module _ {S : Type 0} (source : Lent S) where
   -- more bytes than a script may have are refused by the line for them
-  pub too_long : (bytes : List ℕ) × Gave (left before) (left now) max_script bytes × (max_script < length bytes) → Served left solve before now Input too_long_line []
-  too_long m = record { input = m.0; reads = m.1; is_due = (inl (record { many = m.2; spelled = refl }), refl) }
+  pub too_long : (bytes : List ℕ) × HasGiven source script_limit bytes × (script_limit < length bytes) → Served solve source Input too_long_line []
+  too_long m = record {
+    input = m.0;
+    reads = m.1;
+    is_due = inl (record { refused = refl; why = inl (record { many = m.2; spelled = refl }); uncertified = refl });
+  }
 
-  module _ (bytes : List ℕ) (gave : Gave (left before) (left now) max_script bytes) (few : length bytes ≤ max_script) where
-    pub served : (status : Status) (text : List ℕ) → SolveDue bytes status text [] → Served left solve before now status text []
-    served status text is_due = record { input = bytes; reads = gave; is_due = is_due }
+  -- what is due for the bytes that were read is due
+  pub served : (bytes : List ℕ) → HasGiven source script_limit bytes → (status : Status) (text : List ℕ) → RequestDue solve bytes status text [] → Served solve source status text []
+  served bytes gave status text is_due = record { input = bytes; reads = gave; is_due = is_due }
 
 -- words that ask for nothing: the usage line is due
-pub misused : {S : Type 0} (left : S → Option (List ℕ)) (words : List (List ℕ)) (before : S) → (InGrammar words → ⊥) → Due left words before before Usage usage_line []
-misused left words before none = inl (record { no_words = none; unread = refl; answer = refl; spelled = refl; uncertified = refl })
+pub misused : {S : Type 0} (words : List (List ℕ)) (source : Lent S) → IsUntouched source → (InGrammar words → ⊥) → Due words source Usage usage_line []
+misused words source kept none = inl (record { no_words = none; unread = kept; answer = refl; spelled = refl; uncertified = refl })
+
+-- what a request is served is due for the words that ask for it
+pub asked : {S : Type 0} (words : List (List ℕ)) (source : Lent S) (request : Request) → Asks words request →
+    (status : Status) (text proof : List ℕ) → Served request source status text proof → Due words source status text proof
+asked words source request asks status text proof served = inr (request, asks, served)
 
 -- what was left is what was read to the end
-pub read_is : (before now : Option (List ℕ)) (bytes input : List ℕ) → before ≡ Some input → Gave before now max_script bytes → length bytes ≤ max_script → bytes ≡ input
+pub read_is : (before now : Option (List ℕ)) (bytes input : List ℕ) → before ≡ Some input → Gave before now script_limit bytes → length bytes ≤ script_limit → bytes ≡ input
 read_is before now bytes input is gave few =
     subst (λ o. IfSome o (λ xs. bytes ≡ xs)) is (Consumes-all before now bytes [] bytes gave.given (gave.whole few) refl)
 
@@ -136,32 +156,58 @@ given_le None now bytes input is c = absurd (cc (is))
 given_le (Some xs) None bytes input is c = absurd c
 given_le (Some xs) (Some ys) bytes input is c = let e : xs ≡ input = cc (is) in omega (arith, ap length c, length-append bytes ys, ap length e)
 
--- for a script whose commands are built no line about the input is due
-built_due : (bytes input text proof : List ℕ) (tree : Tree) → bytes ≡ input → IsScript input tree → AllBuilt (meaning tree).commands → IsRefused bytes text ⊎ IsNotBuilt bytes text → ⊥
-built_due bytes input text proof tree same is built (inl refused) = refused.none tree (subst (λ (l : List ℕ). IsScript l tree) (sym same) is)
-built_due bytes input text proof tree same is built (inr unbuilt) =
-    let one = unbuilt.script.only tree (subst (λ (l : List ℕ). IsScript l tree) (sym same) is) in
-    built_no (meaning unbuilt.tree).commands unbuilt.word (subst (λ (t : Tree). AllBuilt (meaning t).commands) one built) unbuilt.first
+-- for a script within the limits whose commands are built no line about the input is due
+admitted : (input text : List ℕ) → Admits solve input → IsTooLong script_limit input text ⊎ (IsRefused script_limit input text ⊎ IsNotBuilt script_limit input text) → ⊥
+admitted input text (few, tree, is, built) (inl long) = omega (arith, few, long.many)
+admitted input text (few, tree, is, built) (inr (inl refused)) = refused.none tree is
+admitted input text (few, tree, is, built) (inr (inr unbuilt)) =
+    built_no (meaning unbuilt.tree).commands unbuilt.word (subst (λ (t : Tree). AllBuilt (meaning t).commands) (unbuilt.script.only tree is) built) unbuilt.first
 
--- a script is answered where there was no fault
-module _ {S K C : Type 0} (left : S → Option (List ℕ)) (out : K → Option (List ℕ)) (cert : C → Option (List ℕ)) (R : Type 0) (s s' : S) (r r' : ℕ) (k k' : K) (f f' : ℕ) (c c' : C) (h h' : ℕ) where
-  -- where no count of faults rose, a script within the limits ends with Fits or TooSmall, or memory wanted
-  pub complete_of : (status : Status) → Ends out cert (Served left solve s s') R r r' k k' f f' c c' h h' status →
-      (input : List ℕ) (tree : Tree) → left s ≡ Some input → length input ≤ max_script → IsScript input tree → AllBuilt (meaning tree).commands →
-      (Rose r r' → ⊥) → (Rose f f' ⊎ Rose h h' → ⊥) → IsSolved status
-  complete_of Fits e input tree is few form built no_read no_write = tt
-  complete_of TooSmall e input tree is few form built no_read no_write = tt
-  complete_of Memory e input tree is few form built no_read no_write = tt
-  complete_of Rejected e input tree is few form built no_read no_write = e.written.2.is_due
-  complete_of Usage e input tree is few form built no_read no_write = e.written.2.is_due
-  complete_of ReadFault e input tree is few form built no_read no_write = no_read (e.read_fault refl)
-  complete_of WriteFault e input tree is few form built no_read no_write = no_write (e.write_fault refl)
-  complete_of Input e input tree is few form built no_read no_write =
-      let d = e.written.2 in
-      let no_more = given_le (left s) (left s') d.input input is d.reads.given in
-      let same = read_is (left s) (left s') d.input input is d.reads (omega (arith, no_more, few)) in
-      ⊎_elim (λ long. absurd (omega (arith, no_more, long.many, few))) (built_due d.input input e.written.0 e.written.1 tree same form built) d.is_due.0
+-- a verdict answers a script
+verdict_answers : (s : Script) (status : Status) → IsVerdict s status → IsAnswered status
+verdict_answers s Fits v = inl refl
+verdict_answers s TooSmall v = inl refl
+verdict_answers s Rejected v = absurd v
+verdict_answers s Input v = absurd v
+verdict_answers s Usage v = absurd v
+verdict_answers s Memory v = absurd v
+verdict_answers s ReadFault v = absurd v
+verdict_answers s WriteFault v = absurd v
+
+module _ {S K C : Type 0} (source : Lent S) (out : Lent K) (cert : Lent C) (input : List ℕ) (offers : Offers solve source input) (admits : Admits solve input) where
+  -- what is due for a script that the source had is its answer
+  answers : (status : Status) (text proof : List ℕ) → Served solve source status text proof → IsAnswered status
+  answers status text proof s = go s.is_due
+    where
+      same : s.input ≡ input
+      same =
+          let no_more = given_le (source.bytes source.before) (source.bytes source.now) s.input input offers s.reads.given in
+          read_is (source.bytes source.before) (source.bytes source.now) s.input input offers s.reads (omega (arith, no_more, admits.0))
+
+      go : RequestDue solve s.input status text proof → IsAnswered status
+      go (inl unread) = absurd (admitted s.input text (subst (Admits solve) (sym same) admits) unread.why)
+      go (inr read) = verdict_answers (meaning read.tree) status read.answer.verdict
+
+  -- where no fault was counted, what a request admits is answered
+  pub complete_of : (status : Status) → Ends solve source out cert status → (HasFailed source → ⊥) → (HasFailed out ⊎ HasFailed cert → ⊥) → IsAnswered status
+  complete_of Fits e no_read no_write = inl refl
+  complete_of TooSmall e no_read no_write = inl refl
+  complete_of Rejected e no_read no_write = inl refl
+  complete_of Memory e no_read no_write = inr refl
+  complete_of Input e no_read no_write = let (text, proof, is_due, o, c) = e.written tt in answers Input text proof is_due
+  complete_of Usage e no_read no_write = let (text, proof, is_due, o, c) = e.written tt in answers Usage text proof is_due
+  complete_of ReadFault e no_read no_write = absurd (no_read (e.read_fault refl).2.0)
+  complete_of WriteFault e no_read no_write = absurd (go (e.write_fault refl))
+    where
+      go : (HasFailed cert × IsBrokenOff (Served solve source) out cert) ⊎ IsCut (Served solve source) out cert → ⊥
+      go (inl (failed, off)) = no_write (inr failed)
+      go (inr cut) = no_write (inl cut.failed)
 
 -- the one thing to ask for is to solve
 pub asks_solve : (words : List (List ℕ)) (r : Asked) → Asks words (request_in r) → Asks words solve
 asks_solve words Solve asks = asks
+
+-- what any request admits is answered, since the one request is to solve
+pub complete_by : {S K C : Type 0} (source : Lent S) (out : Lent K) (cert : Lent C) (request : Request) (input : List ℕ) → Offers request source input → Admits request input →
+    (status : Status) → Ends solve source out cert status → (HasFailed source → ⊥) → (HasFailed out ⊎ HasFailed cert → ⊥) → IsAnswered status
+complete_by source out cert solve input offers admits status e no_read no_write = complete_of source out cert input offers admits status e no_read no_write

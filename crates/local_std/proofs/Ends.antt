@@ -1,98 +1,95 @@
--- How a call ends that writes a text that is due.
-use Rattle.std.proofs.Common.{◌≡◌, inl, inr, ⊎_elim, ℕ, List, take, length, [], sym, subst, arith}
+-- How a call ends that writes a text that is due: with the text, or with its beginning and a fault of the sink. The certificate's
+-- sink is left as it was, so it has gained the empty text, which is all that is due for it yet.
+use Rattle.std.proofs.Common.{◌≡◌, inl, inr, ℕ, List, [], sym, ◌∙◌, subst}
 use Rattle.std.proofs.KnownBytes.{Appends-nil}
-use Rattle.std.specs.declared.option.Option.{Option}
-use Rattle.std.proofs.lemmas.List.{take_all}
 use Rattle.std.specs.Io.KnownBytes.{Appends}
 use Rattle.local_std.specs.declared.outcome.Status.{Status}
-use Rattle.local_std.specs.declared.outcome.Status.TheVariants.{Fits, Rejected, Input, TooSmall, Memory, ReadFault, WriteFault, Usage}
-use Rattle.local_std.specs.Due.{OnAnswer, Ends}
+use Rattle.local_std.specs.declared.outcome.Status.TheVariants.{Memory, ReadFault, WriteFault}
+use Rattle.local_std.specs.Endings.{HasText}
+use Rattle.local_std.specs.Lent.{Lent, IsUntouched, HasGained}
+use Rattle.local_std.specs.Words.{Request}
+use Rattle.local_std.specs.Due.{Served, IsWritten, IsBrokenOff, IsUnwritten, FailsToRead, HasReadSome, Ends}
 use Rattle.local_std.specs.View.{Wrote}
 
--- a status that comes with a text
-abbrev pub IsTold : Status → Type 0
-IsTold Fits = Unit {0}
-IsTold Rejected = Unit {0}
-IsTold Input = Unit {0}
-IsTold TooSmall = Unit {0}
-IsTold Usage = Unit {0}
-IsTold Memory = ⊥
-IsTold ReadFault = ⊥
-IsTold WriteFault = ⊥
+-- a status that comes with a text is not one without
+text_no : (s t : Status) → HasText s → s ≡ t → (HasText t → ⊥) → ⊥
+text_no s t has e none = none (subst HasText e has)
 
-abbrev IsMute : Status → Type 0
-IsMute Fits = ⊥
-IsMute Rejected = ⊥
-IsMute Input = ⊥
-IsMute TooSmall = ⊥
-IsMute Usage = ⊥
-IsMute Memory = Unit {0}
-IsMute ReadFault = Unit {0}
-IsMute WriteFault = Unit {0}
+-- a sink that is as it was has gained the empty text
+gains_nothing : {A : Type 0} (a : Lent A) → IsUntouched a → HasGained a []
+gains_nothing a e = subst (λ x. Appends (a.bytes a.before) (a.bytes x) []) (sym e) (Appends-nil (a.bytes a.before))
 
--- a status with a text is not one without
-told_mute : (s : Status) → IsTold s → IsMute s → ⊥
-told_mute Fits t m = m
-told_mute Rejected t m = m
-told_mute Input t m = m
-told_mute TooSmall t m = m
-told_mute Usage t m = m
-told_mute Memory t m = t
-told_mute ReadFault t m = t
-told_mute WriteFault t m = t
+module _ {K C : Type 0} (D : Status → List ℕ → List ℕ → Type 0) (out : Lent K) (cert : Lent C) (kept : IsUntouched cert) (status result : Status) (text : List ℕ) (has : HasText status) (is_due : D status text []) where
+  -- where the text was written whole, both texts were
+  pub written_of : Wrote status text out result → HasText result → IsWritten D out cert result
+  written_of (inl ok) t = subst (IsWritten D out cert) (sym ok.0) (text, [], is_due, ok.1, gains_nothing cert kept)
+  written_of (inr err) t = absurd (text_no result WriteFault t err.0 (λ x. x))
 
--- so it is not equal to one without
-told_no : (s t : Status) → IsTold s → s ≡ t → IsMute t → ⊥
-told_no s t told e mute = told_mute s told (subst IsMute (sym e) mute)
-
--- what holds, holds of a status with a text
-on_answer : (s : Status) (P : Type 0) → P → OnAnswer s P
-on_answer Fits P p = p
-on_answer Rejected P p = p
-on_answer Input P p = p
-on_answer TooSmall P p = p
-on_answer Usage P p = p
-on_answer Memory P p = tt
-on_answer ReadFault P p = tt
-on_answer WriteFault P p = tt
-
-module _ {K C : Type 0} (out : K → Option (List ℕ)) (cert : C → Option (List ℕ)) (D : Status → List ℕ → List ℕ → Type 0) (R : Type 0)
-    (r r' : ℕ) (k k' : K) (f f' : ℕ) (c : C) (h h' : ℕ) where
-  -- after a text that is due was written, or the sink failed in it
-  pub ends_written : (status result : Status) (text : List ℕ) → IsTold status → D status text [] → Wrote status text (out k) (out k') f f' result → Ends out cert D R r r' k k' f f' c c h h' result
-  ends_written status result text told d (inl ok) = subst (λ s. Ends out cert D R r r' k k' f f' c c h h' s) (sym ok.0) (go status told d)
-    where
-      go : (s : Status) → IsTold s → D s text [] → Ends out cert D R r r' k k' f f' c c h h' s
-      go s t d = record {
-        written = on_answer s _ (text, [], d, ok.1, Appends-nil (cert c));
-        read_fault = λ e. absurd (told_no s ReadFault t e tt);
-        write_fault = λ e. absurd (told_no s WriteFault t e tt);
-        unread = λ e. absurd (told_no s ReadFault t e tt);
-        memory = λ e. absurd (told_no s Memory t e tt);
-        cut = λ e. absurd (told_no s WriteFault t e tt);
-      }
-  ends_written status result text told d (inr err) = subst (λ s. Ends out cert D R r r' k k' f f' c c h h' s) (sym err.0) (record {
-    written = tt;
-    read_fault = λ e. absurd (cc (e));
-    write_fault = λ e. inl err.1;
-    unread = λ e. absurd (cc (e));
-    memory = λ e. absurd (cc (e));
-    cut = λ e. (status, text, [], err.2, d, err.3, Appends-nil (cert c));
+  -- and where the sink failed, it has gained the beginning
+  pub unwritten_of : Wrote status text out result → result ≡ WriteFault → IsUnwritten D out cert
+  unwritten_of (inl ok) e = absurd (text_no status WriteFault has (sym ok.0 ∙ e) (λ x. x))
+  unwritten_of (inr err) e = inr (record {
+    failed = err.1;
+    status = status;
+    text = text;
+    proof = [];
+    is_due = is_due;
+    count = err.2;
+    begun = err.3;
+    certified = gains_nothing cert kept;
   })
 
-module _ (D : Status → List ℕ → List ℕ → Type 0) (status result : Status) (text : List ℕ) (before now cert : Option (List ℕ)) (faults_before faults_now : ℕ) where
-  -- where the text was written whole, the sink gained what is due
-  pub written_of : D status text [] → Wrote status text before now faults_before faults_now result → OnAnswer result ((t p : List ℕ) × D result t p × Appends before now t × Appends cert cert p)
-  written_of d w =
-      ⊎_elim
-      (λ ok. subst (λ s. OnAnswer s ((t p : List ℕ) × D s t p × Appends before now t × Appends cert cert p)) (sym ok.0) (on_answer status _ (text, [], d, ok.1, Appends-nil cert)))
-      (λ err. subst (λ s. OnAnswer s ((t p : List ℕ) × D s t p × Appends before now t × Appends cert cert p)) (sym err.0) tt)
-      w
+  -- it ends in no other way
+  pub no_other : (t : Status) → (HasText t → ⊥) → (WriteFault ≡ t → ⊥) → Wrote status text out result → result ≡ t → ⊥
+  no_other t none other (inl ok) e = text_no status t has (sym ok.0 ∙ e) none
+  no_other t none other (inr err) e = other (sym err.0 ∙ e)
 
-  -- and where it was cut off by a fault, the beginning of what was due
-  pub cut_of : D status text [] → Wrote status text before now faults_before faults_now result → result ≡ WriteFault → (s : Status) × (t p : List ℕ) × (n : ℕ) × D s t p × Appends before now (take n t) × Appends cert cert p
-  cut_of d w is =
-      ⊎_elim
-      (λ ok. (status, text, [], length text, d, subst (Appends before now) (sym (take_all (length text) text (omega arith))) ok.1, Appends-nil cert))
-      (λ err. (status, text, [], err.2, d, err.3, Appends-nil cert))
-      w
+module _ {S K C : Type 0} (request : Request) (source : Lent S) (out : Lent K) (cert : Lent C) where
+  -- a request ends well that writes the text that is due
+  pub ends_written : IsUntouched cert → (status result : Status) (text : List ℕ) → HasText status → Served request source status text [] → Wrote status text out result → Ends request source out cert result
+  ends_written kept status result text has served wrote = record {
+    written = written_of (Served request source) out cert kept status result text has served wrote;
+    read_fault = λ e. absurd (no_other (Served request source) out cert kept status result text has served ReadFault (λ x. x) (λ x. cc (x)) wrote e);
+    memory = λ e. absurd (no_other (Served request source) out cert kept status result text has served Memory (λ x. x) (λ x. cc (x)) wrote e);
+    write_fault = unwritten_of (Served request source) out cert kept status result text has served wrote;
+  }
+
+  -- so it does where the source failed
+  pub ends_unread : IsUntouched out → IsUntouched cert → FailsToRead request source → Ends request source out cert ReadFault
+  ends_unread o c failed = record {
+    written = λ t. absurd t;
+    read_fault = λ e. (o, c, failed);
+    memory = λ e. absurd (cc (e));
+    write_fault = λ e. absurd (cc (e));
+  }
+
+  -- and where memory ran out
+  pub ends_short : IsUntouched out → IsUntouched cert → HasReadSome request source → Ends request source out cert Memory
+  ends_short o c some = record {
+    written = λ t. absurd t;
+    read_fault = λ e. absurd (cc (e));
+    memory = λ e. ((o, inl (gains_nothing cert c)), some);
+    write_fault = λ e. absurd (cc (e));
+  }
+
+-- ---- what holds where D is due holds where more is due
+module _ {K C : Type 0} (D E : Status → List ℕ → List ℕ → Type 0) (more : (s : Status) (t p : List ℕ) → D s t p → E s t p) (out : Lent K) (cert : Lent C) where
+  pub written_more : (status : Status) → IsWritten D out cert status → IsWritten E out cert status
+  written_more status (t, p, d, o, c) = (t, p, more status t p d, o, c)
+
+  pub broken_more : IsBrokenOff D out cert → IsBrokenOff E out cert
+  broken_more (o, inl none) = (o, inl none)
+  broken_more (o, inr (p, n, (s, t, d), gained)) = (o, inr (p, n, (s, t, more s t p d), gained))
+
+  pub unwritten_more : IsUnwritten D out cert → IsUnwritten E out cert
+  unwritten_more (inl (failed, off)) = inl (failed, broken_more off)
+  unwritten_more (inr cut) = inr (record {
+    failed = cut.failed;
+    status = cut.status;
+    text = cut.text;
+    proof = cut.proof;
+    is_due = more cut.status cut.text cut.proof cut.is_due;
+    count = cut.count;
+    begun = cut.begun;
+    certified = cut.certified;
+  })

@@ -5,14 +5,12 @@ use Rattle.sparse_poly.specs.Poly.{Polynomial}
 use Rattle.sparse_poly.specs.Ideal.{Problem}
 use Rattle.script_grammar.specs.declared.script.Word.{Word}
 use Rattle.script_grammar.specs.declared.script.Word.TheVariants.{Std, Vdim, Kbase, HighCorner, Milnor, Tjurina}
-use Rattle.script_grammar.specs.declared.script.Subject.{Subject}
-use Rattle.script_grammar.specs.declared.script.Subject.TheVariants.{Ideal, Function}
 use Rattle.script_grammar.specs.declared.script.Command.{Command}
 use Rattle.script_grammar.specs.declared.script.Script.{Script}
 use Rattle.text_out.specs.declared.answer.Answer.{Answer}
 use Rattle.text_out.specs.declared.answer.Answer.TheVariants.{Fits, TooSmall}
 use Rattle.text_out.specs.Block.{heading, small_line, corner_line, dimension_line, kbase_lines, member_lines, fitting_lines, answer_lines}
-use Rattle.local_std.specs.Answer.{IsAnswerOf, OfIdeal, IsBlock, AreBlocks, IsAnswer}
+use Rattle.local_std.specs.Answer.{problem_of, IsAnswerOf, IsBlock, AreBlocks, IsAnswer}
 use Rattle.staircase.proofs.Basis.{one_basis}
 use Rattle.staircase.proofs.Staircases.{one_staircase, one_missing, none_missing}
 
@@ -47,17 +45,11 @@ one_lines letters p word P (Fits basis stair) (TooSmall missing) x y = absurd (n
 one_lines letters p word P (TooSmall missing) (Fits basis stair) x y = absurd (none_missing P missing y.0 x)
 one_lines letters p word P (TooSmall missing) (TooSmall other) x y = ap (small_line letters) (one_missing P missing other x y)
 
--- so has the subject of a command
-one_subject : (letters : List ℕ) (p : ℕ) (word : Word) (subject : Subject) (a b : Answer) → OfIdeal (λ P. IsAnswerOf P a) subject → OfIdeal (λ P. IsAnswerOf P b) subject →
-    answer_lines letters p word a ≡ answer_lines letters p word b
-one_subject letters p word (Ideal P) a b x y = one_lines letters p word P a b x y
-one_subject letters p word (Function f) a b x y = absurd x
-
 -- a command has one block
 one_block : (s : Script) (index : ℕ) (c : Command) (text other : List ℕ) → IsBlock s index c text → IsBlock s index c other → text ≡ other
 one_block s index c text other x y =
     x.spelled
-    ∙ ap (λ l. heading index c.word c.name ++ l) (one_subject s.letters s.field c.word c.subject x.answer y.answer x.answers y.answers)
+    ∙ ap (λ l. heading index c.word c.name ++ l) (one_lines s.letters s.field c.word (problem_of s c) x.answer y.answer x.answers y.answers)
     ∙ sym y.spelled
 
 -- so commands have one text

@@ -1,7 +1,10 @@
 pub mod Words
 pub mod Built
+pub mod Endings
+pub mod Lent
 pub mod Answer
 pub mod Texts
+pub mod Scripts
 pub mod Due
 pub mod View
 pub mod Number

@@ -1,8 +1,5 @@
 -- What the program's values stand for.
 use Rattle.std.specs.Prelude.{◌≡◌, ℕ, ◌⊎◌, List, take, string_bytes, if◌then◌else◌}
-use Rattle.std.specs.declared.option.Option.{Option}
-use Rattle.std.specs.Io.KnownBytes.{Appends}
-use Rattle.io_edge.specs.Faults.{Rose}
 use Rattle.local_std.specs.declared.outcome.Status.{Status}
 use Rattle.local_std.specs.declared.outcome.Status.TheVariants.{Fits, Input, TooSmall, WriteFault}
 use Rattle.local_std.specs.declared.reply.Reply.{Reply}
@@ -10,12 +7,13 @@ use Rattle.local_std.specs.declared.reply.Reply.TheVariants.{Unanswered, Answere
 use Rattle.local_std.specs.declared.words.Request.{Request as Asked}
 use Rattle.local_std.specs.declared.words.Request.TheVariants.{Solve}
 use Rattle.local_std.specs.Words.{Request, solve}
+use Rattle.local_std.specs.Lent.{Lent, HasFailed, HasGained}
 
 -- the text was written, or the sink failed in it
-abbrev pub Wrote : Status → List ℕ → Option (List ℕ) → Option (List ℕ) → ℕ → ℕ → Status → Type 0
-Wrote status text before now faults_before faults_now result =
-    ((result ≡ status) × Appends before now text)
-    ⊎ ((result ≡ WriteFault) × Rose faults_before faults_now × (n : ℕ) × Appends before now (take n text))
+abbrev pub Wrote : {K : Type 0} → Status → List ℕ → Lent K → Status → Type 0
+Wrote status text sink result =
+    ((result ≡ status) × HasGained sink text)
+    ⊎ ((result ≡ WriteFault) × HasFailed sink × (n : ℕ) × HasGained sink (take n text))
 
 abbrev pub request_in : Asked → Request
 request_in Solve = solve

@@ -4,7 +4,7 @@ ghost use Rattle.std.specs.Bool.{OnTrue, OnFalse};
 ghost use Rattle.sparse_poly.specs.Ideal.{Fits};
 ghost use Rattle.ring_reader.specs.Coherent.{IsCoherent, BelongsTo};
 ghost use Rattle.local_std.specs.Built.{IsBuilt, AllBuilt};
-ghost use Rattle.local_std.specs.Answer.{OfIdeal, IsBlock, IsAnswer, AllFit, SomeIsSmall};
+ghost use Rattle.local_std.specs.Answer.{problem_of, IsBlock, IsAnswer, AllFit, SomeIsSmall};
 
 use crate::answer::{answer_of, is_fitting};
 use crate::outcome::Status;
@@ -37,8 +37,8 @@ pub fn blocks_of(alloc: Global, script: &Script) -> Result<Blocks, AllocError>
     requires coherent { IsCoherent script.now }
     requires built { AllBuilt script.now.commands }
     ensures text { IfOk result (λ b. IsAnswer script.now (string_bytes b.text)) }
-    ensures fits { IfOk result (λ b. OnTrue b.fits (AllFit script.now.commands)) }
-    ensures small { IfOk result (λ b. OnFalse b.fits (SomeIsSmall script.now.commands)) }
+    ensures fits { IfOk result (λ b. OnTrue b.fits (AllFit script.now script.now.commands)) }
+    ensures small { IfOk result (λ b. OnFalse b.fits (SomeIsSmall script.now script.now.commands)) }
 {
     let mut fits = true;
     let mut text = String::new(alloc);
@@ -60,8 +60,8 @@ fn block_of(
     requires belongs { BelongsTo script.now command.now }
     requires built { IsBuilt command.now.word }
     ensures text { IfOk result (λ b. IsBlock script.now index command.now (string_bytes b.text)) }
-    ensures fits { IfOk result (λ b. OnTrue b.fits (OfIdeal Fits command.now.subject)) }
-    ensures small { IfOk result (λ b. OnFalse b.fits (OfIdeal (λ P. Fits P → ⊥) command.now.subject)) }
+    ensures fits { IfOk result (λ b. OnTrue b.fits (Fits (problem_of script.now command.now))) }
+    ensures small { IfOk result (λ b. OnFalse b.fits (Fits (problem_of script.now command.now) → ⊥)) }
 {
     let Subject::Ideal(problem) = &command.subject else {
         unreachable!()

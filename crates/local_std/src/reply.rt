@@ -1,6 +1,7 @@
 // What answers the bytes of a script.
 ghost use Rattle.std.specs.Prelude.{◌≡◌, ◌≤◌, [], length, IfOk};
-ghost use Rattle.local_std.specs.Due.{SolveDue};
+ghost use Rattle.local_std.specs.Words.{solve};
+ghost use Rattle.local_std.specs.Due.{RequestDue, limit_of};
 ghost use Rattle.local_std.specs.View.{status_of, text_of};
 
 use crate::block::{Blocks, blocks_of};
@@ -43,8 +44,8 @@ impl Reply {
 
 /// What answers these bytes. Only reading and answering take memory.
 pub fn reply_to(alloc: Global, bytes: &[u8]) -> Result<Reply, AllocError>
-    requires { length bytes.now ≤ 1048576 }
-    ensures { IfOk result (λ r. SolveDue bytes.now (status_of r) (text_of r) []) }
+    requires { length bytes.now ≤ limit_of solve }
+    ensures { IfOk result (λ r. RequestDue solve bytes.now (status_of r) (text_of r) []) }
 {
     let script = match read_script(alloc, bytes) {
         Ok(script) => script,

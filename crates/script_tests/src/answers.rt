@@ -17,7 +17,7 @@ struct Row {
 const JACOBIAN: &[u8] =
     b"1 std i\n_[1]=x^2*y-15999*y^4\n_[2]=x*y^2-15999*x^4\n_[3]=x^5-y^5\n_[4]=y^6\ncorner y^5\ndim 11\n";
 
-const ROWS: [Row; 36] = [
+const ROWS: [Row; 40] = [
     // a fat point whose corner is no power of a variable
     Row {
         script: b"ring r=32003,(x,y),ds;\nnoether=x^5;\nideal i=x3,x2y,y3; std(i);\n",
@@ -28,6 +28,28 @@ const ROWS: [Row; 36] = [
         script: b"ring r=32003,(x,y),ds;\nnoether=x^5;\nideal i=x3,x2y,y3; vdim(i);\n",
         status: Status::Fits,
         answer: b"1 vdim i\ndim 7\n",
+    },
+    // scripts of four plain lines: no short monomials, no remarks, no blanks but those that part words
+    Row {
+        script: b"ring r=32003,(x,y),ds;\nnoether=x^5;\nideal i=x^3,x^2*y,y^3;\nstd(i);\n",
+        status: Status::Fits,
+        answer: b"1 std i\n_[1]=x^3\n_[2]=x^2*y\n_[3]=y^3\ncorner x*y^2\ndim 7\n",
+    },
+    Row {
+        script: b"ring r=32003,(x,y),ds;\nnoether=y^6;\nideal i=2*x*y^2+5*x^4,2*x^2*y+5*y^4;\nstd(i);\n",
+        status: Status::Fits,
+        answer: JACOBIAN,
+    },
+    Row {
+        script: b"ring r=32003,(x,y),ds;\nnoether=y^5;\nideal i=2*x*y^2+5*x^4,2*x^2*y+5*y^4;\nstd(i);\n",
+        status: Status::TooSmall,
+        answer: b"1 std i\nD 5 is too small: y^5\n",
+    },
+    // the same without its command
+    Row {
+        script: b"ring r=32003,(x,y),ds;\nnoether=x^5;\nideal i=x^3,x^2*y,y^3;\n",
+        status: Status::Input,
+        answer: b"line 4 column 1: end of input\n",
     },
     // the partial derivatives of x^5+x^2*y^2+y^5: a whole script with remarks, comments and names, and a degree too small
     Row {
