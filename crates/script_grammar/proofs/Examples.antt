@@ -1,8 +1,8 @@
 -- Worked scripts: reading computes, so each of these holds as it stands.
-use Rattle.std.proofs.Common.{◌≡◌, ℕ, List, ◌++◌, Some, None, Result, refl}
+use Rattle.std.proofs.Common.{◌≡◌, ℕ, List, ◌∷◌, ◌++◌, Some, None, Result, refl}
 use Rattle.std.specs.Prelude.{codes}
-use Rattle.std.specs.List.{repeat}
-use Rattle.script_grammar.specs.declared.refusal.ReadKind.TheVariants.{BadByte, EndOfInput, MissingNoether, TooManyCommands, Expected, NotAPrime, TooManyVariables, NameClash, UnknownName, ExponentTooLarge, ZeroDivisor, TooDeep, NoetherDegree, TooManyMonomials, TooManyGenerators}
+use Rattle.std.specs.List.{repeat, flat_map}
+use Rattle.script_grammar.specs.declared.refusal.ReadKind.TheVariants.{BadByte, EndOfInput, MissingNoether, TooManyCommands, Expected, NotAPrime, TooManyVariables, NameClash, TooManyNames, UnknownName, ExponentTooLarge, ZeroDivisor, TooDeep, NoetherDegree, TooManyMonomials, TooManyGenerators}
 use Rattle.script_grammar.specs.declared.refusal.What.TheVariants as whats
 use Rattle.script_grammar.specs.declared.refusal.Refusal.{Refusal}
 use Rattle.script_grammar.specs.Tokens.{skip, word_len, text_len, front, next}
@@ -105,3 +105,79 @@ string_that_is_not_closed = refl
 pub comment_in_place_of_a_numeral : outcome (codes "ring r=32003,(x,y),ds;\nnoether=x^5;\npoly f=1//2;") ≡ Some ((3, 13), EndOfInput)
 unfolding reads
 comment_in_place_of_a_numeral = refl
+
+pub no_ring : outcome (codes "option(redSB); poly f=x;") ≡ Some ((1, 16), Expected whats.Ring)
+unfolding reads
+no_ring = refl
+
+pub no_noether : outcome (codes "ring r=5,x,ds;\n7") ≡ Some ((2, 1), Expected whats.Noether)
+unfolding reads
+no_noether = refl
+
+pub no_statement : outcome (codes "ring r=32003,(x,y),ds;\nnoether=x^5;\nring") ≡ Some ((3, 1), Expected whats.Statement)
+unfolding reads
+no_statement = refl
+
+pub no_name : outcome (codes "ring r=32003,(x,y),ds;\nnoether=x^5;\npoly 7=x;") ≡ Some ((3, 6), Expected whats.Name)
+unfolding reads
+no_name = refl
+
+pub no_equals : outcome (codes "ring r=32003,(x,y),ds;\nnoether=x^5;\npoly f,x;") ≡ Some ((3, 7), Expected whats.Equals)
+unfolding reads
+no_equals = refl
+
+pub no_open : outcome (codes "ring r=32003,(x,y),ds;\nnoether=x^5;\nideal i=x;std i;") ≡ Some ((3, 15), Expected whats.Open)
+unfolding reads
+no_open = refl
+
+pub no_close : outcome (codes "ring r=32003,(x,y),ds;\nnoether=x^5;\nideal i=x;std(i;") ≡ Some ((3, 16), Expected whats.Close)
+unfolding reads
+no_close = refl
+
+pub no_semicolon : outcome (codes "ring r=32003,(x,y),ds;\nnoether=x^5;\nideal i=x;std(i),") ≡ Some ((3, 17), Expected whats.Semicolon)
+unfolding reads
+no_semicolon = refl
+
+pub no_comma : outcome (codes "ring r=5;") ≡ Some ((1, 9), Expected whats.Comma)
+unfolding reads
+no_comma = refl
+
+pub no_numeral : outcome (codes "ring r=p") ≡ Some ((1, 8), Expected whats.Numeral)
+unfolding reads
+no_numeral = refl
+
+pub no_variable : outcome (codes "ring r=5,7") ≡ Some ((1, 10), Expected whats.Variable)
+unfolding reads
+no_variable = refl
+
+pub no_order : outcome (codes "ring r=5,x,Ds;") ≡ Some ((1, 12), Expected whats.Order)
+unfolding reads
+no_order = refl
+
+pub no_redsb : outcome (codes "option(redsb);") ≡ Some ((1, 8), Expected whats.RedSb)
+unfolding reads
+no_redsb = refl
+
+pub no_library : outcome (codes "LIB \"sing\";") ≡ Some ((1, 5), Expected whats.Library)
+unfolding reads
+no_library = refl
+
+pub no_monomial : outcome (codes "ring r=5,x,ds;\nnoether=2x;") ≡ Some ((2, 9), Expected whats.Monomial)
+unfolding reads
+no_monomial = refl
+
+pub no_operand : outcome (codes "ring r=32003,(x,y),ds;\nnoether=x^5;\npoly f=;") ≡ Some ((3, 8), Expected whats.Operand)
+unfolding reads
+no_operand = refl
+
+pub no_argument : outcome (codes "ring r=32003,(x,y),ds;\nnoether=x^5;\nideal i=x;std(2);") ≡ Some ((3, 15), Expected whats.Argument)
+unfolding reads
+no_argument = refl
+
+pub name_65 : outcome (codes "ring r=32003,(x,y),ds;\nnoether=x^5;\n" ++ (flat_map (λ a. flat_map (λ b. codes "poly p" ++ (a ∷ b ∷ codes "=0;")) (codes "01234567")) (codes "01234567") ++ codes "poly q=0;")) ≡ Some ((3, 710), TooManyNames)
+unfolding reads
+name_65 = refl
+
+pub name_65_that_is_taken : outcome (codes "ring r=32003,(x,y),ds;\nnoether=x^5;\n" ++ (flat_map (λ a. flat_map (λ b. codes "poly p" ++ (a ∷ b ∷ codes "=0;")) (codes "01234567")) (codes "01234567") ++ codes "poly p00=0;")) ≡ Some ((3, 710), NameClash)
+unfolding reads
+name_65_that_is_taken = refl

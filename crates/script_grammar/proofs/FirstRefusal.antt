@@ -1,6 +1,6 @@
 -- The refusal of a script is the first one, and so is that of an expression.
 -- The facts on the reader of the whole tree, or of an expression, at the place of the first token of the bytes.
-use Rattle.std.proofs.Common.{◌≡◌, ℕ, suc, ◌<◌, List, [], ◌∷◌, Result, Err, refl, sym, ap, ◌∙◌, ◌⊎◌, inl, inr, arith}
+use Rattle.std.proofs.Common.{◌≡◌, ℕ, suc, ◌<◌, List, [], ◌∷◌, Result, Err, refl, sym, ap, subst, ◌∙◌, ◌⊎◌, inl, inr, arith}
 use Rattle.script_grammar.specs.declared.refusal.ReadKind.{ReadKind}
 use Rattle.script_grammar.specs.declared.refusal.Refusal.{Refusal}
 use Rattle.script_grammar.specs.Tokens.{Token, Place, next}
@@ -10,7 +10,12 @@ use Rattle.script_grammar.specs.Expressions.{Declarations, expression_at}
 use Rattle.script_grammar.specs.Valid.{Stand}
 use Rattle.script_grammar.specs.Script.{tree_at, script_of}
 use Rattle.script_grammar.specs.First.{IsLate, refusal_at, IsFirst, IsFirstOfSum}
+use Rattle.script_grammar.specs.Causes.{HasCause, HasCauseInSum}
 use Rattle.script_grammar.proofs.Places.{next_placed}
+use Rattle.script_grammar.proofs.TreeTokens.{AreTokens, AreTokens-front, AreTokens-sum, AreTokens-tree}
+use Rattle.script_grammar.proofs.CauseSteps.{cause_of}
+use Rattle.script_grammar.proofs.SumCauses.{expression_caused}
+use Rattle.script_grammar.proofs.ScriptCauses.{tree_caused}
 use Rattle.script_grammar.proofs.Steps.{bind_err, never}
 use Rattle.script_grammar.proofs.OnlyScript.{script_again}
 use Rattle.script_grammar.proofs.Local.{Any, Local}
@@ -28,6 +33,8 @@ unfolding script_of
 first_is bytes f e =
     let law : Local IsLate Tree (suc (next bytes).left) Any tree_read SpellsShape = tree_local in
     let r = law.refuses (next bytes) f (omega arith) (next_placed bytes) tt (read_fails (next bytes) f e) in
+    let why = tree_caused (next bytes) f (next_placed bytes) (read_fails (next bytes) f e) in
+    let tokens : AreTokens r.before = let b = r.begun in AreTokens-front r.before b.1 (subst AreTokens b.2.0 (AreTokens-tree b.0)) in
     let dead = λ (others : List ℕ) (p v : Place) (st : Stand (next others) r.before p) (st-2 : Stand p r.between v) (h : v.token ≡ r.at.token).
     tree_refuses (next others) (refusal_at p r.kind) (r.again (next others) p v (next_placed others) st st-2 h) in
     record {
@@ -41,6 +48,7 @@ first_is bytes f e =
       near = r.near;
       is = r.is;
       begun = let b = r.begun in (b.0, b.1, b.2.0, b.2.1);
+      cause = cause_of HasCause (next bytes) f r.before why.before r.place why.place r.kind why.kind (next_placed bytes) (r.to_place, tokens) why.stand r.is why.is why.cause;
       dead = dead;
       none = λ others p v t st st-2 h s. never t (refusal_at p r.kind) (sym (script_again others t s) ∙ dead others p v st st-2 h);
     }
@@ -59,10 +67,13 @@ stand_here p v [] kind e (inl h) = e
 stand_here p v (i ∷ between) kind e (inl h) = absurd cc
 stand_here p v between kind e (inr h) = absurd h
 
+-- The refusal of an expression is the first one, with its cause.
 pub first_of_sum_is : (known : Declarations) (bytes : List ℕ) (f : Refusal) → 1 < known.prime → expression_at known (next bytes) ≡ Err f → IsFirstOfSum known bytes f
 first_of_sum_is known bytes f prime e =
     let law : Local Never Sum (suc (next bytes).left) Any (expression_at known) (SpellsSum known 32) = expression_local known prime in
     let r = law.refuses (next bytes) f (omega arith) (next_placed bytes) tt e in
+    let why = expression_caused known (next bytes) f (next_placed bytes) e in
+    let tokens : AreTokens r.before = let b = r.begun in AreTokens-front r.before b.1 (subst AreTokens b.2.0 (AreTokens-sum b.0)) in
     let same = at_place r.place r.at r.between r.kind r.to_at r.near in
     record {
       before = r.before;
@@ -71,5 +82,6 @@ first_of_sum_is known bytes f prime e =
       stand = r.to_place;
       is = r.is;
       begun = let b = r.begun in (b.0, b.1, b.2.0, b.2.1);
+      cause = cause_of (λ kind tokens p. HasCauseInSum kind known tokens p) (next bytes) f r.before why.before r.place why.place r.kind why.kind (next_placed bytes) (r.to_place, tokens) why.stand r.is why.is why.cause;
       dead = λ others p st h. r.again (next others) p p (next_placed others) st (stand_here p p r.between r.kind refl r.near) (h ∙ ap (λ (x : Place). x.token) same);
     }

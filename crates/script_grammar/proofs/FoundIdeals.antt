@@ -26,11 +26,10 @@ argument_step names t f y e =
     let closed = mark_step _ _ _ _ _ name.3 in
     (name.0, opened.0, name.1, closed.0, name.2, ap f (ok_is _ a.0 closed.1) ∙ a.2)
 
-Never : (A : Type 0) → Result A Refusal → Type 0
+abbrev pub Never : (A : Type 0) → Result A Refusal → Type 0
 Never A r = (x : A) → r ≡ Ok x → ⊥
 
 never_refused : (A : Type 0) (d : Refusal) → Never A (Err d)
-unfolding Never
 never_refused A d x e = cc
 
 never_cond : (A : Type 0) (b : Bool) (r s : Result A Refusal) → Never A r → Never A s → Never A (cond b r s)
@@ -38,7 +37,7 @@ never_cond A true r s p q = p
 never_cond A false r s p q = q
 
 -- where there is no room for a member, none is read
-no_room_never : (A : Type 0) (known : Declarations) (t : Place) → Never A (no_room {A = A} known t)
+pub no_room_never : (A : Type 0) (known : Declarations) (t : Place) → Never A (no_room {A = A} known t)
 no_room_never A known t =
     let w = word_of t.token in
     never_cond A (is_word t.token) _ _
@@ -49,13 +48,13 @@ no_room_never A known t =
     (never_cond A (has_large w) _ _ (never_refused A _) (never_refused A _))))))
     (never_cond A (is_the_mark 40 t.token || (is_the_mark 43 t.token || is_the_mark 45 t.token)) _ _ (never_refused A _) (never_refused A _))
 
-record MemberIs (known : Declarations) (count : ℕ) (t : Place) (x : Member × Place) : Type 0 where
-  stand : Stand t (member_tokens x.0) x.1
-  valid : ValidMember known x.0
-  fits : count + generators known x.0 ≤ 64
+pub record MemberIs (known : Declarations) (count : ℕ) (t : Place) (x : Member × Place) : Type 0 where
+  pub stand : Stand t (member_tokens x.0) x.1
+  pub valid : ValidMember known x.0
+  pub fits : count + generators known x.0 ≤ 64
 
-member_found : (known : Declarations) (count : ℕ) (t : Place) (x : Member × Place) → count ≤ 64 → member_at known count t ≡ Ok x → MemberIs known count t x
-unfolding member_at Never
+pub member_found : (known : Declarations) (count : ℕ) (t : Place) (x : Member × Place) → count ≤ 64 → member_at known count t ≡ Ok x → MemberIs known count t x
+unfolding member_at
 member_found known count t x room e =
     let branch = chosen (is_the_word (codes "jacob") t.token) _ _ _ e in
     elim branch [
@@ -78,17 +77,17 @@ member_found known count t x room e =
           ]
     ]
 
-record MembersAre (known : Declarations) (t : Place) (ms : Members) (u : Place) : Type 0 where
-  stand : Stand t (members_tokens ms) u
-  valid : ValidMembers known ms
-  fits : count_of known ms ≤ 64
+pub record MembersAre (known : Declarations) (t : Place) (ms : Members) (u : Place) : Type 0 where
+  pub stand : Stand t (members_tokens ms) u
+  pub valid : ValidMembers known ms
+  pub fits : count_of known ms ≤ 64
 
-record MembersRead (known : Declarations) (t : Place) (x : Members × Place) : Type 0 where
-  stand : Stand t (members_tokens x.0 ++ one (mark 59)) x.1
-  valid : ValidMembers known x.0
-  fits : count_of known x.0 ≤ 64
+pub record MembersRead (known : Declarations) (t : Place) (x : Members × Place) : Type 0 where
+  pub stand : Stand t (members_tokens x.0 ++ one (mark 59)) x.1
+  pub valid : ValidMembers known x.0
+  pub fits : count_of known x.0 ≤ 64
 
-members_found : (n : ℕ) (known : Declarations) (start : Place) (ms : Members) (t : Place) (x : Members × Place) → MembersAre known start ms t → members_at n known ms t ≡ Ok x → MembersRead known start x
+pub members_found : (n : ℕ) (known : Declarations) (start : Place) (ms : Members) (t : Place) (x : Members × Place) → MembersAre known start ms t → members_at n known ms t ≡ Ok x → MembersRead known start x
 unfolding members_at
 members_found zero known start ms t x so_far e = absurd cc
 members_found (suc n) known start ms t x so_far e =

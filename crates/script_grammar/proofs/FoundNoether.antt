@@ -14,7 +14,7 @@ use Rattle.script_grammar.proofs.FoundSteps.{mark_step, exponent_step}
 abbrev FactorIs : List ℕ → Place → Factor × Place → Type 0
 FactorIs letters t x = Stand t (factor_tokens x.0) x.1 × ValidFactor letters x.0
 
-factor_found : (letters : List ℕ) (t : Place) (x : Factor × Place) → factor_at letters t ≡ Ok x → FactorIs letters t x
+pub factor_found : (letters : List ℕ) (t : Place) (x : Factor × Place) → factor_at letters t ≡ Ok x → FactorIs letters t x
 unfolding factor_at
 factor_found letters t x e =
     let w = word_of t.token in
@@ -38,7 +38,7 @@ factor_found letters t x e =
 abbrev MonomialIs : List ℕ → Place → Monomial × Place → Type 0
 MonomialIs letters t x = Stand t (monomial_tokens x.0) x.1 × ValidFactors letters x.0
 
-factors_found : (letters : List ℕ) (start : Place) (n : ℕ) (m : Monomial) (t : Place) (x : Monomial × Place) → MonomialIs letters start (m, t) → factors_at n letters m t ≡ Ok x → MonomialIs letters start x
+pub factors_found : (letters : List ℕ) (start : Place) (n : ℕ) (m : Monomial) (t : Place) (x : Monomial × Place) → MonomialIs letters start (m, t) → factors_at n letters m t ≡ Ok x → MonomialIs letters start x
 unfolding factors_at
 factors_found letters start zero m t x so_far e = subst (λ (y : Monomial × Place). MonomialIs letters start y) (ok_is (m, t) x e) so_far
 factors_found letters start (suc n) m t x so_far e =

@@ -51,7 +51,7 @@ pub record VariablesAre (ring : List ℕ) (t : Place) (x : Variables × Place) :
   pub valid : AreVariables ring (letters_of x.0)
   pub count : length (letters_of x.0) ≤ 8
 
-letters_found : (ring : List ℕ) (t : Place) (x : Variables × Place) → letters_at ring t ≡ Ok x → VariablesAre ring t x
+pub letters_found : (ring : List ℕ) (t : Place) (x : Variables × Place) → letters_at ring t ≡ Ok x → VariablesAre ring t x
 unfolding letters_at
 letters_found ring t x e =
     let branch = chosen (is_the_mark 40 t.token) _ _ _ e in

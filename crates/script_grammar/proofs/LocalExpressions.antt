@@ -54,10 +54,10 @@ no_mark m (word w) h = refl
 no_mark m (text w) h = refl
 no_mark m (mark k) h = absurd cc
 
-abbrev star_power : (Place → Result (Sum × Place) Refusal) → Declarations → Term → Reader Power
+abbrev pub star_power : (Place → Result (Sum × Place) Refusal) → Declarations → Term → Reader Power
 star_power inner known y t = power_at inner known (next t.rest)
 
-times_loop : (inner : Place → Result (Sum × Place) Refusal) (known : Declarations)
+pub times_loop : (inner : Place → Result (Sum × Place) Refusal) (known : Declarations)
     → IsLoop Term Power Term (λ y i. is_the_mark 42 i) (star_power inner known) times (λ y t. Ok (y, t)) (times_at inner known)
 unfolding times_at
 times_loop inner known = record { step = λ n y t. refl; base = λ y t h. refl; over = λ y i h. no_mark 42 i h }
@@ -108,11 +108,11 @@ GoesSum known deep y x tokens = (sum_tokens x ≡ sum_tokens y ++ tokens) × (Va
 abbrev JoinedSum : Declarations → ℕ → Sum → Sum → List Token → Type 0
 JoinedSum known deep y x tokens = GoesSum known deep y x tokens × NotEmpty tokens
 
-abbrev joins : Token → Bool
+abbrev pub joins : Token → Bool
 joins i = is_the_mark 43 i || is_the_mark 45 i
 
 -- a sum with one more term
-abbrev joined : (Place → Result (Sum × Place) Refusal) → Declarations → Sum → Reader Sum
+abbrev pub joined : (Place → Result (Sum × Place) Refusal) → Declarations → Sum → Reader Sum
 joined inner known y t = cond (is_the_mark 43 t.token) (term_at inner known (next t.rest) >>= λ z. Ok (plus y z.0, z.1)) (term_at inner known (next t.rest) >>= λ z. Ok (minus y z.0, z.1))
 
 one_of_two : {A B : Type 0} (p q : Bool) (r : Result (A × Place) Refusal) (f g : A → B) (on : B × Place → Result (B × Place) Refusal) (stop : Result (B × Place) Refusal)
@@ -121,7 +121,7 @@ one_of_two true q r f g on stop = sym (bind_assoc r (λ z. Ok (f z.0, z.1)) on)
 one_of_two false true r f g on stop = sym (bind_assoc r (λ z. Ok (g z.0, z.1)) on)
 one_of_two false false r f g on stop = refl
 
-more_loop : (inner : Place → Result (Sum × Place) Refusal) (known : Declarations) → IsLoop Sum Sum Sum (λ y i. joins i) (joined inner known) (λ y e. e) (λ y t. Ok (y, t)) (more_at inner known)
+pub more_loop : (inner : Place → Result (Sum × Place) Refusal) (known : Declarations) → IsLoop Sum Sum Sum (λ y i. joins i) (joined inner known) (λ y e. e) (λ y t. Ok (y, t)) (more_at inner known)
 unfolding more_at
 more_loop inner known = record {
   step = λ n y t. one_of_two (is_the_mark 43 t.token) (is_the_mark 45 t.token) (term_at inner known (next t.rest)) (plus y) (minus y) (λ e. more_at inner known n e.0 e.1) (Ok (y, t));

@@ -139,16 +139,16 @@ GoesMembers y x tokens = (members_tokens x ++ one (mark 59) ≡ members_tokens y
 abbrev CommaMember : Member → List Token → Type 0
 CommaMember m tokens = (mark 44 ∷ member_tokens m ≡ tokens) × FormedMember m
 
-abbrev more_members : Declarations → ℕ → Members → Reader Members
+abbrev pub more_members : Declarations → ℕ → Members → Reader Members
 more_members known n y t = members_at (suc n) known y t
 
-abbrev comma_member : Declarations → Members → Reader Member
+abbrev pub comma_member : Declarations → Members → Reader Member
 comma_member known y t = member_at known (count_of known y) (next t.rest)
 
-abbrev last_member : Members → Reader Members
+abbrev pub last_member : Members → Reader Members
 last_member y t = cond (is_the_mark 59 t.token) (Ok (y, next t.rest)) (wanted t whats.Operator)
 
-members_loop : (known : Declarations) → IsLoop Members Member Members (λ y i. is_the_mark 44 i) (comma_member known) more last_member (more_members known)
+pub members_loop : (known : Declarations) → IsLoop Members Member Members (λ y i. is_the_mark 44 i) (comma_member known) more last_member (more_members known)
 unfolding members_at
 members_loop known = record {
   step = λ n y t. refl;

@@ -63,10 +63,10 @@ GoesMonomial y x tokens = (monomial_tokens x ≡ monomial_tokens y ++ tokens) ×
 abbrev StarFactor : Factor → List Token → Type 0
 StarFactor f tokens = (mark 42 ∷ factor_tokens f ≡ tokens) × FormedFactor f
 
-abbrev factors_on : List ℕ → ℕ → Monomial → Reader Monomial
+abbrev pub factors_on : List ℕ → ℕ → Monomial → Reader Monomial
 factors_on letters n m t = factors_at n letters m t
 
-factors_loop : (letters : List ℕ) → IsLoop Monomial Factor Monomial (λ y i. is_the_mark 42 i) (λ y t. factor_at letters (next t.rest)) product (λ y t. Ok (y, t)) (factors_on letters)
+pub factors_loop : (letters : List ℕ) → IsLoop Monomial Factor Monomial (λ y i. is_the_mark 42 i) (λ y t. factor_at letters (next t.rest)) product (λ y t. Ok (y, t)) (factors_on letters)
 unfolding factors_at
 factors_loop letters = record { step = λ n y t. refl; base = λ y t h. refl; over = λ y i h. no_mark 42 i h }
 
@@ -122,7 +122,7 @@ late_kind false true n m kind e = let same : TooManyMonomials n ≡ kind = cc in
 late_kind false false n m kind e = absurd cc
 
 -- a monomial begins with a word
-first_word : (m : Monomial) → (w : List ℕ) × (tokens : List Token) × (word w ∷ tokens ≡ monomial_tokens m)
+pub first_word : (m : Monomial) → (w : List ℕ) × (tokens : List Token) × (word w ∷ tokens ≡ monomial_tokens m)
 first_word (factor (short_word w)) = (w, [], refl)
 first_word (factor (raised_letter w digits)) = (w, mark 94 ∷ one (word digits), refl)
 first_word (product m f) = let r = first_word m in (r.0, r.1 ++ (mark 42 ∷ factor_tokens f), ap (λ (z : List Token). z ++ (mark 42 ∷ factor_tokens f)) r.2)

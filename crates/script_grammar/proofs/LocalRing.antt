@@ -54,7 +54,7 @@ no_remark (word w) h = absurd cc
 no_remark (text w) h = refl
 no_remark (mark k) h = refl
 
-remarks_loop : IsLoop (List Remark) Remark (List Remark) (λ y i. begins_remark i) (λ y. remark_at) (λ y r. y ++ r ∷ []) (λ y t. Ok (y, t)) remarks_at
+pub remarks_loop : IsLoop (List Remark) Remark (List Remark) (λ y i. begins_remark i) (λ y. remark_at) (λ y r. y ++ r ∷ []) (λ y t. Ok (y, t)) remarks_at
 unfolding remarks_at
 remarks_loop = record { step = λ n y t. refl; base = λ y t h. refl; over = λ y i h. no_remark i h }
 
@@ -62,7 +62,7 @@ pub remark_some : (r : Remark) → NotEmpty (remark_tokens r)
 remark_some option = tt
 remark_some library = tt
 
-remark_last : (y : List Remark) (r : Remark) → flat_map remark_tokens (y ++ r ∷ []) ≡ flat_map remark_tokens y ++ remark_tokens r
+pub remark_last : (y : List Remark) (r : Remark) → flat_map remark_tokens (y ++ r ∷ []) ≡ flat_map remark_tokens y ++ remark_tokens r
 remark_last y r = flat_map-append remark_tokens y (r ∷ []) ∙ ap (λ (z : List Token). flat_map remark_tokens y ++ z) (append-nil (remark_tokens r))
 
 pub remarks_local : {n : ℕ} {W : Token → Type 0} → Local IsLate (List Remark) n W (λ t. remarks_at t.left [] t) SpellsRemarks
@@ -94,11 +94,11 @@ ring_name_local =
     local_if (λ i. not (is_word i && is_named (word_of i))) (local_refuse (Expected whats.Name) some)
     (local_if (λ i. is_one_of keywords (word_of i)) (local_refuse NameClash some) (local_value word_of some (λ i w. name_spelled i w.0.1)))
 
-first_or : (b c : Bool) (q p : ℕ) → eqb q p ≡ b → 1 < q → (c ≡ true → 1 < p) → (b || c) ≡ true → 1 < p
+pub first_or : (b c : Bool) (q p : ℕ) → eqb q p ≡ b → 1 < q → (c ≡ true → 1 < p) → (b || c) ≡ true → 1 < p
 first_or true c q p e more on h = let same : q ≡ p = eqb-true q p e in omega arith
 first_or false c q p e more on h = on h
 
-any_more : (qs : List ℕ) (p : ℕ) → list_all (λ q. nat_lt 1 q) qs ≡ true → list_any (λ q. eqb q p) qs ≡ true → 1 < p
+pub any_more : (qs : List ℕ) (p : ℕ) → list_all (λ q. nat_lt 1 q) qs ≡ true → list_any (λ q. eqb q p) qs ≡ true → 1 < p
 any_more [] p more h = absurd cc
 any_more (q ∷ qs) p more h =
     let m = and_parts (nat_lt 1 q) (list_all (λ q. nat_lt 1 q) qs) more in
@@ -137,7 +137,7 @@ variable_local ring letters =
     (local_if (λ i. has_letter letters (letter_of (word_of i)) || is_same ring (word_of i)) (local_refuse NameClash some)
     (local_value (λ i. letter_of (word_of i)) some (λ i w. letter_spelled i w.0.0.1))))
 
-abbrev comma_letter : ℕ → List Token
+abbrev pub comma_letter : ℕ → List Token
 comma_letter k = mark 44 ∷ one (word (k ∷ []))
 
 abbrev CommaLetter : ℕ → List Token → Type 0
@@ -147,13 +147,13 @@ CommaLetter l tokens = (comma_letter l ≡ tokens) × (is_letter l ≡ true)
 abbrev GoesLetters : List ℕ → List ℕ → List Token → Type 0
 GoesLetters y x tokens = (made : List ℕ) × (x ≡ y ++ made) × (flat_map comma_letter made ++ one (mark 41) ≡ tokens) × (list_all is_letter made ≡ true)
 
-abbrev more_letters : List ℕ → ℕ → List ℕ → Reader (List ℕ)
+abbrev pub more_letters : List ℕ → ℕ → List ℕ → Reader (List ℕ)
 more_letters ring n y t = variables_at (suc n) ring y t
 
-abbrev last_letter : List ℕ → Reader (List ℕ)
+abbrev pub last_letter : List ℕ → Reader (List ℕ)
 last_letter y t = cond (is_the_mark 41 t.token) (Ok (y, next t.rest)) (wanted t whats.Comma)
 
-letters_loop : (ring : List ℕ) → IsLoop (List ℕ) ℕ (List ℕ) (λ y i. is_the_mark 44 i) (λ y t. variable_at ring y (next t.rest)) (λ y l. y ++ l ∷ []) last_letter (more_letters ring)
+pub letters_loop : (ring : List ℕ) → IsLoop (List ℕ) ℕ (List ℕ) (λ y i. is_the_mark 44 i) (λ y t. variable_at ring y (next t.rest)) (λ y l. y ++ l ∷ []) last_letter (more_letters ring)
 unfolding variables_at
 letters_loop ring = record {
   step = λ n y t. refl;

@@ -34,11 +34,11 @@ pub record Progress : Type 0 where
   pub count : ℕ
   pub done : List Statement
 
-abbrev advanced : Progress → Statement → Progress
+abbrev pub advanced : Progress → Statement → Progress
 advanced y s = record { known = after y.known s; count = y.count + commands_in s; done = y.done ++ s ∷ [] }
 
 -- the loop, with the place behind it
-statements_read : ℕ → Progress → Reader (List Statement)
+pub statements_read : ℕ → Progress → Reader (List Statement)
 statements_read zero y t = wanted t whats.Statement
 statements_read (suc n) y t = cond (nat_le 1 y.count && is_the_end t.token) (Ok (y.done, t)) (statement_at y.known y.count t >>= λ s. statements_read n (advanced y s.0) s.1)
 
@@ -71,7 +71,7 @@ last_statement : (known : Declarations) (count : ℕ) (t : Place) → is_last t.
 unfolding statement_at
 last_statement known count t h = last_refused (remark_at t >>= λ r. Ok (remark r.0, r.1)) (poly_at known (next t.rest)) (ideal_at known (next t.rest)) known count t t.token h
 
-abbrev stopped : Progress → Reader (List Statement)
+abbrev pub stopped : Progress → Reader (List Statement)
 stopped y t = cond (nat_le 1 y.count && is_the_end t.token) (Ok (y.done, t)) (wanted t whats.Statement)
 
 no_and : {A : Type 0} (b : Bool) (x y : A) → cond (b && false) x y ≡ y
@@ -88,13 +88,13 @@ turn_is b t z r on (word w) h = no_and b z (r >>= on)
 turn_is b t z r on (text w) h = no_and b z (r >>= on)
 turn_is b t z r on (mark m) h = no_and b z (r >>= on)
 
-abbrev statement_item : Progress → Reader Statement
+abbrev pub statement_item : Progress → Reader Statement
 statement_item y t = statement_at y.known y.count t
 
-abbrev read_more : ℕ → Progress → Reader (List Statement)
+abbrev pub read_more : ℕ → Progress → Reader (List Statement)
 read_more n y t = statements_read (suc n) y t
 
-statements_loop : IsLoop Progress Statement (List Statement) (λ y i. not (is_last i)) statement_item advanced stopped read_more
+pub statements_loop : IsLoop Progress Statement (List Statement) (λ y i. not (is_last i)) statement_item advanced stopped read_more
 unfolding statements_read
 statements_loop = record {
   step = λ n y t. turn_is (nat_le 1 y.count) t (Ok (y.done, t)) (statement_at y.known y.count t) (λ s. statements_read (suc n) (advanced y s.0) s.1) t.token (last_statement y.known y.count t);
@@ -104,7 +104,7 @@ statements_loop = record {
   over = λ y i h. ap not h;
 }
 
-prime_kept : (known : Declarations) (s : Statement) → known.prime ≡ (after known s).prime
+pub prime_kept : (known : Declarations) (s : Statement) → known.prime ≡ (after known s).prime
 prime_kept known (remark r) = refl
 prime_kept known (poly name sum) = refl
 prime_kept known (again name other) = refl
@@ -112,7 +112,7 @@ prime_kept known (ideal name members) = refl
 prime_kept known (command w name) = refl
 prime_kept known (command_std w name) = refl
 
-statement_some : (s : Statement) → NotEmpty (statement_tokens s)
+pub statement_some : (s : Statement) → NotEmpty (statement_tokens s)
 statement_some (remark r) = remark_some r
 statement_some (poly name sum) = tt
 statement_some (again name other) = tt
@@ -151,20 +151,20 @@ statements_local y prime =
     }) y prime
 
 -- ---- the tree
-abbrev ring_part : Reader Ring
+abbrev pub ring_part : Reader Ring
 ring_part t = cond (is_the_word (codes "ring") t.token) (ring_at (next t.rest)) (wanted t whats.Ring)
 
-abbrev noether_part : List ℕ → Reader Monomial
+abbrev pub noether_part : List ℕ → Reader Monomial
 noether_part letters t = cond (is_the_word (codes "noether") t.token) (noether_at letters (next t.rest)) (cond (begins_later t.token) (refused t MissingNoether) (wanted t whats.Noether))
 
-abbrev start : Ring → Progress
+abbrev pub start : Ring → Progress
 start r = record { known = record { ring = r.name; prime = value_of r.prime; letters = letters_of r.variables; polys = []; ideals = [] }; count = 0; done = [] }
 
-abbrev finished : List Remark → Ring → List Remark → Monomial → List Statement → Tree
+abbrev pub finished : List Remark → Ring → List Remark → Monomial → List Statement → Tree
 finished before ring between noether statements = record { before = before; ring = ring; between = between; noether = noether; statements = statements }
 
 -- the tree, with the place behind it
-pub tree_read : Reader Tree
+unfoldable pub tree_read : Reader Tree
 tree_read t = do
   before ← remarks_at t.left [] t
   ring ← ring_part before.1

@@ -58,7 +58,7 @@ ring_name_again w t here named free = rw (here, named, free) refl
 pub ring_name_then : {B : Type 0} (w : List ℕ) (t : Place) (f : List ℕ × Place → Result B Refusal) (y : Result B Refusal) → t.token ≡ word w → is_named w ≡ true → is_one_of keywords w ≡ false → f (w, next t.rest) ≡ y → (ring_name_at t >>= f) ≡ y
 ring_name_then w t f y here named free e = read_then (ring_name_at t) f (w, next t.rest) y (ring_name_again w t here named free) e
 
-from_table : (n : ℕ) → InTable n → list_any (λ q. eqb q n) table ≡ true
+pub from_table : (n : ℕ) → InTable n → list_any (λ q. eqb q n) table ≡ true
 from_table n h = list_any_at (λ q. eqb q n) table h.0 n h.1 (eq-eqb (get_or table h.0 n) n h.2)
 
 prime_again : (w : List ℕ) (t : Place) → t.token ≡ word w → is_numeral w ≡ true → InTable (value_of w) → prime_at t ≡ Ok (w, next t.rest)

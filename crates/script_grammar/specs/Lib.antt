@@ -11,5 +11,7 @@ pub mod Spelling
 pub mod Places
 pub mod Ends
 pub mod Formed
+pub mod Spots
+pub mod Causes
 pub mod First
 pub mod Outcome

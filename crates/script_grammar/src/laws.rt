@@ -1,10 +1,10 @@
 //! The laws of the reading functions: what they say and what the grammar says is the same, and a refusal is the first one.
 //! Each is a call that does nothing, and whose contract is the law.
 
-ghost use Rattle.std.specs.Prelude.{◌≡◌, ◌↔◌, ℕ, ◌<◌, ◌++◌, List, Ok, Err, Some, None, codes};
-ghost use Rattle.std.specs.List.{repeat};
+ghost use Rattle.std.specs.Prelude.{◌≡◌, ◌↔◌, ℕ, ◌<◌, ◌∷◌, ◌++◌, List, Ok, Err, Some, None, codes};
+ghost use Rattle.std.specs.List.{repeat, flat_map};
 ghost use Rattle.script_grammar.specs.declared.refusal.Refusal.{Refusal};
-ghost use Rattle.script_grammar.specs.declared.refusal.ReadKind.TheVariants.{BadByte, EndOfInput, MissingNoether, TooManyCommands, Expected, NotAPrime, TooManyVariables, NameClash, UnknownName, ExponentTooLarge, ZeroDivisor, TooDeep, NoetherDegree, TooManyMonomials, TooManyGenerators};
+ghost use Rattle.script_grammar.specs.declared.refusal.ReadKind.TheVariants.{BadByte, EndOfInput, MissingNoether, TooManyCommands, Expected, NotAPrime, TooManyVariables, NameClash, TooManyNames, UnknownName, ExponentTooLarge, ZeroDivisor, TooDeep, NoetherDegree, TooManyMonomials, TooManyGenerators};
 ghost use Rattle.script_grammar.specs.declared.refusal.What.TheVariants as whats;
 ghost use Rattle.script_grammar.specs.Tokens.{Token, bad, end, cut, Place, the_end, cut_off, next};
 ghost use Rattle.script_grammar.specs.Spelling.{Spells};
@@ -71,7 +71,8 @@ pub fn first_refusal_of_expression()
     ensures { (known : Declarations) (bytes : List ℕ) (f : Refusal) → 1 < known.prime → expression_at known (next bytes) ≡ Err f → IsFirstOfSum known bytes f }
 {}
 
-/// Worked scripts: what is read, and what is refused, at which line and column and why.
+/// Worked scripts: what is read, and what is refused, at which line and column and why; each kind of refusal and each token that
+/// may be wanted is among them.
 pub fn examples()
     ensures blanks_and_comments { outcome (codes "option(redSB); LIB \"sing.lib\"; // hi\nring x2=007 , x , ds ;/**/noether=x*x^2*x3;\nideal i=x;std(i);") ≡ None }
     ensures zero_divisor_of_characteristic_two { outcome (codes "ring r=2,(x,y),ds;\nnoether=x^5;\npoly f=1/2;\n") ≡ Some ((3, 10), ZeroDivisor) }
@@ -95,4 +96,23 @@ pub fn examples()
     ensures byte_of_no_token { outcome (codes "ring r=32003,(x,y),ds;\nnoether=x^5;\npoly f=_;") ≡ Some ((3, 8), BadByte) }
     ensures string_that_is_not_closed { outcome (codes "ring r=32003,(x,y),ds;\nnoether=x^5;\npoly f=\"a") ≡ Some ((3, 10), EndOfInput) }
     ensures comment_in_place_of_a_numeral { outcome (codes "ring r=32003,(x,y),ds;\nnoether=x^5;\npoly f=1//2;") ≡ Some ((3, 13), EndOfInput) }
+    ensures no_ring { outcome (codes "option(redSB); poly f=x;") ≡ Some ((1, 16), Expected whats.Ring) }
+    ensures no_noether { outcome (codes "ring r=5,x,ds;\n7") ≡ Some ((2, 1), Expected whats.Noether) }
+    ensures no_statement { outcome (codes "ring r=32003,(x,y),ds;\nnoether=x^5;\nring") ≡ Some ((3, 1), Expected whats.Statement) }
+    ensures no_name { outcome (codes "ring r=32003,(x,y),ds;\nnoether=x^5;\npoly 7=x;") ≡ Some ((3, 6), Expected whats.Name) }
+    ensures no_equals { outcome (codes "ring r=32003,(x,y),ds;\nnoether=x^5;\npoly f,x;") ≡ Some ((3, 7), Expected whats.Equals) }
+    ensures no_open { outcome (codes "ring r=32003,(x,y),ds;\nnoether=x^5;\nideal i=x;std i;") ≡ Some ((3, 15), Expected whats.Open) }
+    ensures no_close { outcome (codes "ring r=32003,(x,y),ds;\nnoether=x^5;\nideal i=x;std(i;") ≡ Some ((3, 16), Expected whats.Close) }
+    ensures no_semicolon { outcome (codes "ring r=32003,(x,y),ds;\nnoether=x^5;\nideal i=x;std(i),") ≡ Some ((3, 17), Expected whats.Semicolon) }
+    ensures no_comma { outcome (codes "ring r=5;") ≡ Some ((1, 9), Expected whats.Comma) }
+    ensures no_numeral { outcome (codes "ring r=p") ≡ Some ((1, 8), Expected whats.Numeral) }
+    ensures no_variable { outcome (codes "ring r=5,7") ≡ Some ((1, 10), Expected whats.Variable) }
+    ensures no_order { outcome (codes "ring r=5,x,Ds;") ≡ Some ((1, 12), Expected whats.Order) }
+    ensures no_redsb { outcome (codes "option(redsb);") ≡ Some ((1, 8), Expected whats.RedSb) }
+    ensures no_library { outcome (codes "LIB \"sing\";") ≡ Some ((1, 5), Expected whats.Library) }
+    ensures no_monomial { outcome (codes "ring r=5,x,ds;\nnoether=2x;") ≡ Some ((2, 9), Expected whats.Monomial) }
+    ensures no_operand { outcome (codes "ring r=32003,(x,y),ds;\nnoether=x^5;\npoly f=;") ≡ Some ((3, 8), Expected whats.Operand) }
+    ensures no_argument { outcome (codes "ring r=32003,(x,y),ds;\nnoether=x^5;\nideal i=x;std(2);") ≡ Some ((3, 15), Expected whats.Argument) }
+    ensures name_65 { outcome (codes "ring r=32003,(x,y),ds;\nnoether=x^5;\n" ++ (flat_map (λ a. flat_map (λ b. codes "poly p" ++ (a ∷ b ∷ codes "=0;")) (codes "01234567")) (codes "01234567") ++ codes "poly q=0;")) ≡ Some ((3, 710), TooManyNames) }
+    ensures name_65_that_is_taken { outcome (codes "ring r=32003,(x,y),ds;\nnoether=x^5;\n" ++ (flat_map (λ a. flat_map (λ b. codes "poly p" ++ (a ∷ b ∷ codes "=0;")) (codes "01234567")) (codes "01234567") ++ codes "poly p00=0;")) ≡ Some ((3, 710), NameClash) }
 {}

@@ -1,4 +1,4 @@
-use Rattle.script_grammar.proofs.Examples.{blanks_and_comments, zero_divisor_of_characteristic_two, characteristic_that_is_no_prime, variable_twice, ninth_variable, ideal_before_noether, noether_degree_above_255, too_many_monomials, name_like_a_monomial, exponent_behind_two_factors, unknown_letter_before_a_large_exponent, large_exponent, command_on_ideals_of_a_polynomial, parentheses_32, parenthesis_33, generator_65, derivatives_above_64, commands_64, command_65, byte_of_no_token, string_that_is_not_closed, comment_in_place_of_a_numeral}
+use Rattle.script_grammar.proofs.Examples.{blanks_and_comments, zero_divisor_of_characteristic_two, characteristic_that_is_no_prime, variable_twice, ninth_variable, ideal_before_noether, noether_degree_above_255, too_many_monomials, name_like_a_monomial, exponent_behind_two_factors, unknown_letter_before_a_large_exponent, large_exponent, command_on_ideals_of_a_polynomial, parentheses_32, parenthesis_33, generator_65, derivatives_above_64, commands_64, command_65, byte_of_no_token, string_that_is_not_closed, comment_in_place_of_a_numeral, no_ring, no_noether, no_statement, no_name, no_equals, no_open, no_close, no_semicolon, no_comma, no_numeral, no_variable, no_order, no_redsb, no_library, no_monomial, no_operand, no_argument, name_65, name_65_that_is_taken}
 use Rattle.script_grammar.proofs.laws.examples.Goals as goal
 
 pub returns-clause-blanks_and_comments : goal.returns-clause-blanks_and_comments
@@ -66,3 +66,60 @@ returns-clause-string_that_is_not_closed c = string_that_is_not_closed
 
 pub returns-clause-comment_in_place_of_a_numeral : goal.returns-clause-comment_in_place_of_a_numeral
 returns-clause-comment_in_place_of_a_numeral c = comment_in_place_of_a_numeral
+
+pub returns-clause-no_ring : goal.returns-clause-no_ring
+returns-clause-no_ring c = no_ring
+
+pub returns-clause-no_noether : goal.returns-clause-no_noether
+returns-clause-no_noether c = no_noether
+
+pub returns-clause-no_statement : goal.returns-clause-no_statement
+returns-clause-no_statement c = no_statement
+
+pub returns-clause-no_name : goal.returns-clause-no_name
+returns-clause-no_name c = no_name
+
+pub returns-clause-no_equals : goal.returns-clause-no_equals
+returns-clause-no_equals c = no_equals
+
+pub returns-clause-no_open : goal.returns-clause-no_open
+returns-clause-no_open c = no_open
+
+pub returns-clause-no_close : goal.returns-clause-no_close
+returns-clause-no_close c = no_close
+
+pub returns-clause-no_semicolon : goal.returns-clause-no_semicolon
+returns-clause-no_semicolon c = no_semicolon
+
+pub returns-clause-no_comma : goal.returns-clause-no_comma
+returns-clause-no_comma c = no_comma
+
+pub returns-clause-no_numeral : goal.returns-clause-no_numeral
+returns-clause-no_numeral c = no_numeral
+
+pub returns-clause-no_variable : goal.returns-clause-no_variable
+returns-clause-no_variable c = no_variable
+
+pub returns-clause-no_order : goal.returns-clause-no_order
+returns-clause-no_order c = no_order
+
+pub returns-clause-no_redsb : goal.returns-clause-no_redsb
+returns-clause-no_redsb c = no_redsb
+
+pub returns-clause-no_library : goal.returns-clause-no_library
+returns-clause-no_library c = no_library
+
+pub returns-clause-no_monomial : goal.returns-clause-no_monomial
+returns-clause-no_monomial c = no_monomial
+
+pub returns-clause-no_operand : goal.returns-clause-no_operand
+returns-clause-no_operand c = no_operand
+
+pub returns-clause-no_argument : goal.returns-clause-no_argument
+returns-clause-no_argument c = no_argument
+
+pub returns-clause-name_65 : goal.returns-clause-name_65
+returns-clause-name_65 c = name_65
+
+pub returns-clause-name_65_that_is_taken : goal.returns-clause-name_65_that_is_taken
+returns-clause-name_65_that_is_taken c = name_65_that_is_taken
