@@ -15,7 +15,7 @@ use Rattle.script_grammar.specs.Steps.{◌>>=◌}
 use Rattle.script_grammar.specs.Script.{script_of, position_of}
 use Rattle.script_grammar.specs.Valid.{IsScript}
 use Rattle.script_grammar.specs.Meaning.{meaning}
-use Rattle.script_grammar.proofs.OnlyScript.{script_once}
+use Rattle.script_grammar.proofs.ValidScriptIsRead.{script_once}
 use Rattle.script_grammar.proofs.FirstRefusal.{first_is}
 use Rattle.ring_reader.specs.declared.error.ReadError.TheVariants as errors
 use Rattle.ring_reader.specs.Answers.{Refuses, asked_by}

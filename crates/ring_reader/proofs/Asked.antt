@@ -9,8 +9,8 @@ use Rattle.script_grammar.specs.Steps.{◌>>=◌}
 use Rattle.script_grammar.specs.Script.{script_of, position_from}
 use Rattle.script_grammar.specs.Valid.{IsScript}
 use Rattle.script_grammar.specs.Meaning.{meaning}
-use Rattle.script_grammar.proofs.FoundScript.{script_found}
-use Rattle.script_grammar.proofs.OnlyScript.{script_again}
+use Rattle.script_grammar.proofs.ReadScriptIsValid.{script_found}
+use Rattle.script_grammar.proofs.ValidScriptIsRead.{script_again}
 use Rattle.ring_reader.specs.declared.error.ReadError.{ReadError}
 use Rattle.ring_reader.specs.declared.error.ReadError.TheVariants as errors
 use Rattle.ring_reader.specs.Answers.{Answers, asked_by, located}
@@ -33,10 +33,12 @@ tree_behind : (r : Result Tree Refusal) (s : Script) → (r >>= λ t. Ok (meanin
 tree_behind (Ok t) s e = (t, refl, sym cc)
 tree_behind (Err f) s e = absurd cc
 
+-- What is answered as read is the meaning of a script of the grammar.
 pub answer_found : (bytes : List ℕ) (r : Result Script ReadError) → Answers bytes r (asked_by bytes) → IfOk r (λ s. (t : Tree) × IsScript bytes t × (s ≡ meaning t))
 answer_found bytes (Ok s) a = let x = tree_behind (script_of bytes) s a in (x.0, script_found bytes x.0 x.1, x.2)
 answer_found bytes (Err e) a = tt
 
+-- Where the bytes are a script, what is answered is its meaning, or memory ran out.
 pub answer_only : (bytes : List ℕ) (r : Result Script ReadError) → Answers bytes r (asked_by bytes) → (t : Tree) → IsScript bytes t → Answers bytes r (Ok (meaning t))
 answer_only bytes r a t s =
     subst (λ (q : Result Script Refusal). Answers bytes r q) (ap (λ (q : Result Tree Refusal). q >>= λ x. Ok (meaning x)) (script_again bytes t s)) a

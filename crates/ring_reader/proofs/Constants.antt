@@ -12,5 +12,6 @@ pub constant_written : (p n e c r : ℕ) → degree (mono_one n) ≤ e → r ≡
 constant_written p n e c r low h =
     rw (h, le-leb (degree (mono_one n)) e low) (ap (λ k. in_front k (mono_one n) []) (mod-mod c p))
 
+-- The residue of a product is that of a residue with the other factor.
 pub product_of_residue : (p a b r : ℕ) → r ≡ ((a % p) * b) % p → r ≡ (a * b) % p
 product_of_residue p a b r h = h ∙ mul-mod (a % p) b p ∙ ap (λ k. (k * (b % p)) % p) (mod-mod a p) ∙ sym (mul-mod a b p)

@@ -18,9 +18,11 @@ use Rattle.ring_reader.specs.NamesView.{declared_poly}
 use Rattle.ring_reader.specs.Gives.{meant}
 use Rattle.ring_reader.proofs.Loops.{meant_ok}
 
+-- What lies in the ring has degree at most D + 1.
 in_ring_low : (v : Values) (f : Poly) → HasDegreeAtMost (v.d + 1) (in_ring v f)
 in_ring_low v f = HasDegreeAtMost-canonical v.p (v.d + 1) (cut (v.d + 1) f) (HasDegreeAtMost-cut (v.d + 1) f)
 
+-- The opposite has no greater degree.
 opposite_low : (p d : ℕ) (f : Poly) → HasDegreeAtMost d f → HasDegreeAtMost d (opposite p f)
 opposite_low p d [] h = All-nil (λ s. degree s.mono ≤ d)
 opposite_low p d (t ∷ f) h =

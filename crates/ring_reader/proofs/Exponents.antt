@@ -17,6 +17,7 @@ letter_over [] w i h e = absurd (omega (arith, h))
 letter_over (l ∷ letters) w zero h e = omega (arith, e)
 letter_over (l ∷ letters) w (suc i) h e = let r = letter_over letters w i (omega (arith, h)) e in omega (arith, r)
 
+-- The exponents are at most 1,000, or the degree is above.
 all_low : (m : List ℕ) → All (λ e. e ≤ 1000) m ⊎ (1000 < degree m)
 all_low [] = inl (λ k d h. absurd (omega (arith, h)))
 all_low (e ∷ m) = join (cases_lt 1000 e) (all_low m)
@@ -45,6 +46,7 @@ exponents_go exps letters w i x l within have l_is some so_far =
     ∙ sym (map-append (letter_exponent (exponents w)) (take i letters) (get_or letters i 0 ∷ []))
     ∙ ap (map (letter_exponent (exponents w))) (sym (take_more letters i 0 have))
 
+-- None isn't something.
 no_none : (X : Type 0) → IsSome {T = X} None → ⊥
 no_none X e = absurd cc
 

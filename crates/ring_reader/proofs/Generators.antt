@@ -30,6 +30,7 @@ refusal_if : (left : ℕ) (b : Bool) (kind other : ReadKind) (r : Result (Member
 refusal_if left true kind other r e = refl
 refusal_if left false kind other r e = e
 
+-- A word for which there is no room is refused by its kind.
 pub no_room_word : (known : Declarations) (t : Place) (w : List ℕ) → t.token ≡ word w → no_room {A = Member × Place} known t ≡ refused t (no_room_kind known w)
 no_room_word known t w is =
     rw is
@@ -39,6 +40,7 @@ no_room_word known t w is =
     (refusal_if t.left (not (is_short known.letters w)) _ _ _
     (refusal_if t.left (has_large w) _ _ _ refl)))))
 
+-- Where there is no room, what refuses its first token refuses the member.
 pub full_refused : {B : Type 0} (g : Member → B) (known : Declarations) (count : ℕ) (t : Place) (f : Refusal) → is_the_word (codes "jacob") t.token ≡ false → count ≡ 64
     → no_room {A = Member × Place} known t ≡ Err f → meant g (member_at known count t) ≡ Err f
 unfolding member_at
@@ -66,9 +68,11 @@ jacobian_go v g old gens i f is so_far =
     ∙ sym (map-append (in_variables (variable_count v)) (map g (range_with_len 0 i)) (g i ∷ []))
     ∙ ap (in_ring_of v) (sym (map-range_with_len_more g 0 i i (omega arith))))
 
+-- The derivatives of a declared polynomial are the generators of jacob( ).
 pub jacob_gens : (v : Values) (w : List ℕ) (f : Poly) → value_in v.polys [] w ≡ f → derivatives v f ≡ member_gens v (jacobian w)
 jacob_gens v w f e = ap (derivatives v) (sym e)
 
+-- There are as many derivatives as variables.
 pub length_derivatives : (v : Values) (f : Poly) → length (derivatives v f) ≡ variable_count v
 length_derivatives v f = length-map _ (in_variables (variable_count v)) ∙ length-map-range_with_len _ 0 (variable_count v)
 
@@ -76,11 +80,13 @@ length_derivatives v f = length-map _ (in_variables (variable_count v)) ∙ leng
 pub gens_more : (v : Values) (ms : Members) (m : Member) → members_gens v (more ms m) ≡ members_gens v ms ++ member_gens v m
 gens_more v ms m = map-append (in_variables (variable_count v)) (members_value v ms) (member_value v m)
 
+-- A member has as many generators as the grammar counts.
 count_one : (known : Declarations) (v : Values) → known.letters ≡ v.letters → (m : Member) → length (member_gens v m) ≡ generators known m
 count_one known v same (generator s) = refl
 count_one known v same (jacobian f) =
     length-map _ (in_variables (variable_count v)) ∙ length-map-range_with_len _ 0 (variable_count v) ∙ ap length (sym same)
 
+-- Members have as many generators as the grammar counts.
 pub count_gens : (known : Declarations) (v : Values) → known.letters ≡ v.letters → (ms : Members) → length (members_gens v ms) ≡ count_of known ms
 count_gens known v same (only m) = count_one known v same m
 count_gens known v same (more ms m) =
@@ -95,11 +101,13 @@ pub record MembersSoFar (known : Declarations) (v : Values) (whole : Result (Mem
   pub gens_are : gens ≡ members_gens v tree
   pub reads : members_at turns known tree t ≡ whole
 
+-- Behind a comma one more member is read.
 members_step : (known : Declarations) (n : ℕ) (ms : Members) (t : Place) → is_the_mark 44 t.token ≡ true
     → members_at (suc n) known ms t ≡ (member_at known (count_of known ms) (next t.rest) >>= λ m. members_at n known (more ms m.0) m.1)
 unfolding members_at
 members_step known n ms t here = rw here refl
 
+-- Members go on behind a comma, where the loop of the grammar has turns left.
 members_go-at : (known : Declarations) (v : Values) (whole : Result (Members × Place) Refusal) (gens made : List Polynomial) (t u : Place)
     → known.letters ≡ v.letters → is_the_mark 44 t.token ≡ true → u.left < t.left → meant (λ m. gens ++ member_gens v m) (member_at known (length gens) (next t.rest)) ≡ Ok (made, u)
     → (n : ℕ) (ms : Members) → t.left < n → gens ≡ members_gens v ms → members_at n known ms t ≡ whole → MembersSoFar known v whole made u
@@ -116,12 +124,14 @@ members_go-at known v whole gens made t u same here shorter e (suc n) ms enough 
       reads = sym (step ∙ ap (λ (r : Result (Member × Place) Refusal). r >>= λ x. members_at n known (more ms x.0) x.1) m.1) ∙ reads;
     }
 
+-- Members go on behind a comma.
 pub members_go : (known : Declarations) (v : Values) (whole : Result (Members × Place) Refusal) (gens made : List Polynomial) (t u start : Place)
     → known.letters ≡ v.letters → is_the_mark 44 t.token ≡ true → u.left < t.left → start ≡ next t.rest
     → meant (λ m. gens ++ member_gens v m) (member_at known (length gens) start) ≡ Ok (made, u) → MembersSoFar known v whole gens t → MembersSoFar known v whole made u
 members_go known v whole gens made t u start same here shorter starts e s =
     members_go-at known v whole gens made t u same here shorter (subst (λ p. meant (λ m. gens ++ member_gens v m) (member_at known (length gens) p) ≡ Ok (made, u)) starts e) s.turns s.tree s.enough s.gens_are s.reads
 
+-- What refuses the member behind a comma refuses them all, where the loop of the grammar has turns left.
 members_fail-at : (known : Declarations) (v : Values) (whole : Result (Members × Place) Refusal) (gens : List Polynomial) (t : Place) (stop : Stop)
     → known.letters ≡ v.letters → is_the_mark 44 t.token ≡ true → Fails stop (meant (λ m. gens ++ member_gens v m) (member_at known (length gens) (next t.rest)))
     → (n : ℕ) (ms : Members) → t.left < n → gens ≡ members_gens v ms → members_at n known ms t ≡ whole → Fails stop (meant (members_gens v) whole)
@@ -133,6 +143,7 @@ members_fail-at known v whole gens t stop same here h (suc n) ms enough gens_are
     fails_on (λ x. Ok (members_gens v x.0, x.1)) stop whole
     (subst (λ w. Fails stop w) step (fails_on f stop (member_at known (length gens) (next t.rest)) (fails_meant (λ m. gens ++ member_gens v m) stop (member_at known (length gens) (next t.rest)) h)))
 
+-- What refuses the member behind a comma refuses them all.
 pub members_fail : (known : Declarations) (v : Values) (whole : Result (Members × Place) Refusal) (gens : List Polynomial) (t start : Place) (stop : Stop)
     → known.letters ≡ v.letters → is_the_mark 44 t.token ≡ true → start ≡ next t.rest
     → Fails stop (meant (λ m. gens ++ member_gens v m) (member_at known (length gens) start)) → MembersSoFar known v whole gens t → Fails stop (meant (members_gens v) whole)
@@ -145,11 +156,13 @@ members_stop-by : (ms : Members) (t : Place) (b : Bool) → cond {A = Result (Me
 members_stop-by ms t true = refl
 members_stop-by ms t false = refl
 
+-- Where no comma stands, the ; must.
 members_stop : (known : Declarations) (n : ℕ) (ms : Members) (t : Place) → is_the_mark 44 t.token ≡ false → members_at (suc n) known ms t ≡ (mark_at 59 whats.Operator t >>= λ after. Ok (ms, after))
 unfolding members_at mark_at
 members_stop known n ms t here =
     rw here (members_stop-by ms t (is_the_mark 59 t.token))
 
+-- The ; ends the members, or its refusal does, where the loop of the grammar has turns left.
 members_end-at : (known : Declarations) (v : Values) (whole : Result (Members × Place) Refusal) (gens : List Polynomial) (t : Place) (mark : Result Place Refusal)
     → is_the_mark 44 t.token ≡ false → mark_at 59 whats.Operator t ≡ mark → (n : ℕ) (ms : Members) → t.left < n → gens ≡ members_gens v ms → members_at n known ms t ≡ whole
     → meant (members_gens v) whole ≡ (mark >>= λ after. Ok (gens, after))
@@ -159,6 +172,7 @@ members_end-at known v whole gens t mark here closed (suc n) ms enough gens_are 
     ∙ after_read (members_gens v) ms gens gens_are (mark_at 59 whats.Operator t)
     ∙ ap (λ (r : Result Place Refusal). r >>= λ after. Ok (gens, after)) closed
 
+-- The ; ends the members, or its refusal does.
 pub members_end : (known : Declarations) (v : Values) (whole : Result (Members × Place) Refusal) (gens : List Polynomial) (t : Place) (mark : Result Place Refusal)
     → is_the_mark 44 t.token ≡ false → mark_at 59 whats.Operator t ≡ mark → MembersSoFar known v whole gens t → meant (members_gens v) whole ≡ (mark >>= λ after. Ok (gens, after))
 members_end known v whole gens t mark here closed s = members_end-at known v whole gens t mark here closed s.turns s.tree s.enough s.gens_are s.reads

@@ -12,6 +12,7 @@ use Rattle.script_grammar.specs.Steps.{◌>>=◌}
 use Rattle.std.specs.Prelude.{All}
 use Rattle.std.proofs.lemmas.List.Elements.{All-append, All-cons}
 
+-- What failed with a reason gives that reason.
 pub gives_failed : {X Y : Type 0} (view : X → Y) (r : Result X Stop) (e : Stop) (read : Result Y Refusal) → IsErrAnd r (λ x. x ≡ e) → Fails e read → Gives view r read
 gives_failed view r e read h f = let p = err_from_is_err_and r h in rw (p.1, p.2) f
 

@@ -48,12 +48,14 @@ inner_at_mark known v d t start u f mark starts e closed =
     ∙ ap (λ (r : Result Place Refusal). meant (sum_value v) (r >>= λ after. Ok (m.0, after))) closed
     ∙ after_read (sum_value v) m.0 f m.2 mark
 
+-- What is read behind ( up to its ) is read in parentheses.
 pub inner_reads : (known : Declarations) (v : Values) (deep : ℕ) (t start u w : Place) (f : Poly)
     → deep ≡ suc (deep - 1) → start ≡ next t.rest → meant (sum_value v) (sum_at (inner_at (deep - 1) known) known start) ≡ Ok (f, u) → mark_at 41 whats.Operator u ≡ Ok w
     → meant (sum_value v) (inner_at deep known t) ≡ Ok (f, w)
 inner_reads known v deep t start u w f some starts e closed =
     ap (λ k. meant (sum_value v) (inner_at k known t)) some ∙ inner_at_mark known v (deep - 1) t start u f (Ok w) starts e closed
 
+-- What refuses the ) behind a sum refuses the parentheses.
 pub inner_refused : (known : Declarations) (v : Values) (deep : ℕ) (t start u : Place) (f : Poly) (x : Refusal)
     → deep ≡ suc (deep - 1) → start ≡ next t.rest → meant (sum_value v) (sum_at (inner_at (deep - 1) known) known start) ≡ Ok (f, u) → mark_at 41 whats.Operator u ≡ Err x
     → meant (sum_value v) (inner_at deep known t) ≡ Err x

@@ -22,6 +22,7 @@ bind_same : {A B : Type 0} (r : Result A Refusal) (f g : A → Result B Refusal)
 bind_same (Ok x) f g h = h x
 bind_same (Err e) f g h = refl
 
+-- Steps of reading may be grouped in either way.
 bind_then : {A B C : Type 0} (r : Result A Refusal) (f : A → Result B Refusal) (g : B → Result C Refusal) → ((r >>= f) >>= g) ≡ (r >>= λ x. f x >>= g)
 bind_then (Ok x) f g = refl
 bind_then (Err e) f g = refl
@@ -30,16 +31,19 @@ bind_then (Err e) f g = refl
 abbrev ring_read : Place → Result (Ring × Place) Refusal
 ring_read t = if is_the_word (codes "ring") t.token then ring_at (next t.rest) else wanted t whats.Ring
 
+-- The ring with its word and what is behind are read in one step or two.
 ring_by : {C : Type 0} (t : Place) (g : RingValue × Place → Result C Refusal) (b : Bool)
     → ((if b then meant ring_value (ring_at (next t.rest)) else wanted t whats.Ring) >>= g) ≡ ((if b then ring_at (next t.rest) else wanted t whats.Ring) >>= λ r. g (ring_value r.0, r.1))
 ring_by t g true = bind_then (ring_at (next t.rest)) (λ x. Ok (ring_value x.0, x.1)) g
 ring_by t g false = refl
 
+-- the noether monomial, from its word on
 abbrev noether_read : List ℕ → Place → Result (Monomial × Place) Refusal
 noether_read letters t =
     if is_the_word (codes "noether") t.token then noether_at letters (next t.rest)
     else (if begins_later t.token then refused t MissingNoether else wanted t whats.Noether)
 
+-- The noether degree with its word and what is behind are read in one step or two.
 noether_by : {C : Type 0} (letters : List ℕ) (t : Place) (g : ℕ × Place → Result C Refusal) (b c : Bool)
     → ((if b then meant degree_of (noether_at letters (next t.rest)) else (if c then refused t MissingNoether else wanted t whats.Noether)) >>= g)
     ≡ ((if b then noether_at letters (next t.rest) else (if c then refused t MissingNoether else wanted t whats.Noether)) >>= λ m. g (degree_of m.0, m.1))
@@ -51,6 +55,7 @@ noether_by letters t g false false = refl
 abbrev tree_meaning : Tree → Result Script Refusal
 tree_meaning x = Ok (meaning x)
 
+-- A script read part by part, each to its value, is the meaning of its tree.
 pub parts_are : (t : Place) → script_parts t ≡ (tree_at t >>= λ x. Ok (meaning x))
 unfolding tree_at
 parts_are t =
@@ -69,6 +74,7 @@ parts_are t =
     ∙ sym (bind_then (ring_read before.1) _ tree_meaning))
     ∙ sym (bind_then (remarks_at t.left [] t) _ tree_meaning)
 
+-- What bytes ask for is what is read part by part from their first token on.
 pub asked_is : (bytes : List ℕ) → asked_by bytes ≡ script_parts (next bytes)
 unfolding script_of
 asked_is bytes = sym (parts_are (next bytes))

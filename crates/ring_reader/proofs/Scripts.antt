@@ -35,10 +35,12 @@ abbrev pub values_after_all : Values → List Statement → Values
 values_after_all v [] = v
 values_after_all v (s ∷ statements) = values_after_all (values_after v s) statements
 
+-- The values behind one more statement are those that it leaves behind those before.
 pub values_after_more : (v : Values) (done : List Statement) (s : Statement) → values_after_all v (done ++ s ∷ []) ≡ values_after (values_after_all v done) s
 values_after_more v [] s = refl
 values_after_more v (d ∷ done) s = values_after_more (values_after v d) done s
 
+-- One more statement asks its commands behind those before.
 pub meaning_more : (v : Values) (done : List Statement) (s : Statement) → statements_meaning v (done ++ s ∷ []) ≡ statements_meaning v done ++ commands_of (values_after_all v done) s
 meaning_more v [] s = append-nil (commands_of v s)
 meaning_more v (d ∷ done) s =
@@ -58,11 +60,13 @@ known_after ring p letters d polys ideals v (remark r) = refl
 known_after ring p letters d polys ideals v (command w name) = refl
 known_after ring p letters d polys ideals v (command_std w name) = refl
 
+-- One more ideal of the code is one more of the grammar.
 ideals_grow : (v : Values) (ideals : List NamedIdeal) (name : List ℕ) (gens : List Poly)
     → map declared_ideal (ideals ++ record { name = name; gens = in_ring_of v gens } ∷ []) ≡ map declared_ideal ideals ++ record { name = name; value = gens } ∷ []
 ideals_grow v ideals name gens =
     map-append declared_ideal ideals _ ∙ ap (λ (g : List Poly). map declared_ideal ideals ++ record { name = name; value = g } ∷ []) (terms_of_ring v gens)
 
+-- What a statement declares in the code is what it declares in the grammar.
 values_grow : (p : ℕ) (letters : List ℕ) (d : ℕ) (polys : List NamedPoly) (ideals : List NamedIdeal) (s : Statement)
     → values_with p letters d (polys_after polys (effect_of (values_with p letters d polys ideals) s)) (ideals_after ideals (effect_of (values_with p letters d polys ideals) s)) ≡ values_after (values_with p letters d polys ideals) s
 unfolding values_after
@@ -76,6 +80,7 @@ values_grow p letters d polys ideals (remark r) = refl
 values_grow p letters d polys ideals (command w name) = refl
 values_grow p letters d polys ideals (command_std w name) = refl
 
+-- What a statement asks in the code is what it asks in the grammar.
 commands_grow : (v : Values) (commands : List Command) (s : Statement) → commands_after commands (effect_of v s) ≡ commands ++ commands_of v s
 unfolding commands_of
 commands_grow v commands (remark r) = sym (append-nil commands)
@@ -85,6 +90,7 @@ commands_grow v commands (ideal name ms) = sym (append-nil commands)
 commands_grow v commands (command w name) = refl
 commands_grow v commands (command_std w name) = refl
 
+-- A statement asks as many commands as the grammar counts.
 count_grow : (v : Values) (commands : List Command) (s : Statement) → length (commands_after commands (effect_of v s)) ≡ length commands + commands_in s
 count_grow v commands (remark r) = omega arith
 count_grow v commands (poly name sum) = omega arith
@@ -100,12 +106,14 @@ sound_polys p n d polys (effects.Poly f) all sound = All-push (λ (g : NamedPoly
 sound_polys p n d polys (effects.Ideal i) all sound = all
 sound_polys p n d polys (effects.Command c) all sound = all
 
+-- Polynomials of low degree stay so with what a statement declares.
 pub low_polys : (p n d : ℕ) (polys : List NamedPoly) (e : Effect) → All (λ (f : NamedPoly). HasDegreeAtMost (d + 1) f.value.terms) polys → IsSoundEffect p n d e → All (λ (f : NamedPoly). HasDegreeAtMost (d + 1) f.value.terms) (polys_after polys e)
 low_polys p n d polys effects.Nothing all sound = all
 low_polys p n d polys (effects.Poly f) all sound = All-push (λ (g : NamedPoly). HasDegreeAtMost (d + 1) g.value.terms) polys f all sound.1
 low_polys p n d polys (effects.Ideal i) all sound = all
 low_polys p n d polys (effects.Command c) all sound = all
 
+-- Ideals of the ring stay so with what a statement declares.
 pub sound_ideals : (p n d : ℕ) (ideals : List NamedIdeal) (e : Effect) → All (λ (i : NamedIdeal). All (IsGenerator p n d) i.gens) ideals → IsSoundEffect p n d e → All (λ (i : NamedIdeal). All (IsGenerator p n d) i.gens) (ideals_after ideals e)
 sound_ideals p n d ideals effects.Nothing all sound = all
 sound_ideals p n d ideals (effects.Poly f) all sound = all
@@ -126,6 +134,7 @@ sound_commands p n d commands (effects.Poly f) all sound = all
 sound_commands p n d commands (effects.Ideal i) all sound = all
 sound_commands p n d commands (effects.Command c) all sound = All-push (IsCommandIn p n d) commands c all sound
 
+-- What a statement asks makes the commands longer by as many.
 pub asked_count : (commands : List Command) (e : Effect) → length (commands_after commands e) ≡ length commands + commands_asked e
 asked_count commands effects.Nothing = omega arith
 asked_count commands (effects.Poly f) = omega arith
@@ -144,14 +153,17 @@ pub record ScriptSoFar (r : RingValue) (d : ℕ) (whole : Result (List Statement
   pub commands_are : commands ≡ statements_meaning (no_values r d) done
   pub reads : statements_at turns (declared_with r.name r.prime r.letters polys ideals) (length commands) done t ≡ whole
 
+-- Before the first statement nothing is declared and nothing asked.
 pub script_begins : (r : RingValue) (d : ℕ) (t : Place) → ScriptSoFar r d (statements_from r t) [] [] [] t
 script_begins r d t = record { turns = suc t.left; done = []; enough = omega arith; values = refl; commands_are = refl; reads = refl }
 
+-- Where the statements aren't over, one more is read.
 statements_step : (known : Declarations) (n count : ℕ) (done : List Statement) (t : Place) → (nat_le 1 count && is_the_end t.token) ≡ false
     → statements_at (suc n) known count done t ≡ (statement_at known count t >>= λ s. statements_at n (after known s.0) (count + commands_in s.0) (done ++ s.0 ∷ []) s.1)
 unfolding statements_at
 statements_step known n count done t over = rw over refl
 
+-- The statements go on behind one, where the loop of the grammar has turns left.
 script_goes-at : (r : RingValue) (d : ℕ) (whole : Result (List Statement) Refusal) (polys : List NamedPoly) (ideals : List NamedIdeal) (commands : List Command) (t u : Place) (s : Statement)
     → (nat_le 1 (length commands) && is_the_end t.token) ≡ false → u.left < t.left
     → statement_at (declared_with r.name r.prime r.letters polys ideals) (length commands) t ≡ Ok (s, u)
@@ -175,6 +187,7 @@ script_goes-at r d whole polys ideals commands t u s over shorter read (suc n) d
           ∙ ap (λ k. statements_at n (after known s) k (done ++ s ∷ []) u) (count_grow v commands s) ∙ sym step ∙ reads;
     }
 
+-- The statements go on behind one.
 pub script_goes : (r : RingValue) (d : ℕ) (whole : Result (List Statement) Refusal) (polys : List NamedPoly) (ideals : List NamedIdeal) (commands : List Command) (t u : Place) (e : Effect)
     → (nat_le 1 (length commands) && is_the_end t.token) ≡ false → u.left < t.left
     → meant (effect_of (values_with r.prime r.letters d polys ideals)) (statement_at (declared_with r.name r.prime r.letters polys ideals) (length commands) t) ≡ Ok (e, u)
@@ -184,6 +197,7 @@ script_goes r d whole polys ideals commands t u e over shorter read s =
     subst (λ x. ScriptSoFar r d whole (polys_after polys x) (ideals_after ideals x) (commands_after commands x) u) (sym m.2)
     (script_goes-at r d whole polys ideals commands t u m.0 over shorter m.1 s.turns s.done s.enough s.values s.commands_are s.reads)
 
+-- What refuses a statement refuses them all, where the loop of the grammar has turns left.
 script_fails-at : (r : RingValue) (d : ℕ) (whole : Result (List Statement) Refusal) (polys : List NamedPoly) (ideals : List NamedIdeal) (commands : List Command) (t : Place) (stop : Stop)
     → (nat_le 1 (length commands) && is_the_end t.token) ≡ false
     → Fails stop (meant (effect_of (values_with r.prime r.letters d polys ideals)) (statement_at (declared_with r.name r.prime r.letters polys ideals) (length commands) t))
@@ -198,12 +212,14 @@ script_fails-at r d whole polys ideals commands t stop over h (suc n) done enoug
     fails_on (λ statements. Ok (statements_meaning (no_values r d) statements)) stop whole
     (subst (λ w. Fails stop w) step (fails_on f stop read (fails_meant (effect_of (values_with r.prime r.letters d polys ideals)) stop read h)))
 
+-- What refuses a statement refuses them all.
 pub script_fails : (r : RingValue) (d : ℕ) (whole : Result (List Statement) Refusal) (polys : List NamedPoly) (ideals : List NamedIdeal) (commands : List Command) (t : Place) (stop : Stop)
     → (nat_le 1 (length commands) && is_the_end t.token) ≡ false
     → Fails stop (meant (effect_of (values_with r.prime r.letters d polys ideals)) (statement_at (declared_with r.name r.prime r.letters polys ideals) (length commands) t))
     → ScriptSoFar r d whole polys ideals commands t → Fails stop (whole >>= λ statements. Ok (statements_meaning (no_values r d) statements))
 script_fails r d whole polys ideals commands t stop over h s = script_fails-at r d whole polys ideals commands t stop over h s.turns s.done s.enough s.reads
 
+-- The statements end where the script is over, whatever turns the loop of the grammar has left.
 script_ends-at : (r : RingValue) (d : ℕ) (whole : Result (List Statement) Refusal) (polys : List NamedPoly) (ideals : List NamedIdeal) (commands : List Command) (t : Place)
     → (nat_le 1 (length commands) && is_the_end t.token) ≡ true
     → (n : ℕ) (done : List Statement) → t.left < n → commands ≡ statements_meaning (no_values r d) done → statements_at n (declared_with r.name r.prime r.letters polys ideals) (length commands) done t ≡ whole
@@ -215,6 +231,7 @@ script_ends-at r d whole polys ideals commands t over (suc n) done enough comman
     ap (λ (w : Result (List Statement) Refusal). w >>= λ statements. Ok (statements_meaning (no_values r d) statements)) (sym reads ∙ step)
     ∙ ap (λ (l : List Command). Ok l) (sym commands_are)
 
+-- The statements end where the script is over.
 pub script_ends : (r : RingValue) (d : ℕ) (whole : Result (List Statement) Refusal) (polys : List NamedPoly) (ideals : List NamedIdeal) (commands : List Command) (t : Place)
     → (nat_le 1 (length commands) && is_the_end t.token) ≡ true → ScriptSoFar r d whole polys ideals commands t
     → (whole >>= λ statements. Ok (statements_meaning (no_values r d) statements)) ≡ Ok commands
@@ -229,6 +246,7 @@ pub script_goes_by : (r : RingValue) (d : ℕ) (whole : Result (List Statement) 
 script_goes_by r d whole polys ps ideals is commands t u e p letters count tested p_is letters_is ps_is is_is count_is tested_is over shorter read s =
     script_goes r d whole polys ideals commands t u e (rw tested_is at over) shorter (rw (p_is, letters_is, ps_is, is_is, count_is) at read) s
 
+-- What refuses a statement refuses them all, by what the code says of it.
 pub script_fails_by : (r : RingValue) (d : ℕ) (whole : Result (List Statement) Refusal) (polys ps : List NamedPoly) (ideals is : List NamedIdeal) (commands : List Command) (t : Place) (stop : Stop) (p : ℕ) (letters : List ℕ) (count tested : ℕ)
     → p ≡ r.prime → letters ≡ r.letters → ps ≡ polys → is ≡ ideals → count ≡ length commands → tested ≡ length commands
     → (nat_le 1 tested && is_the_end t.token) ≡ false

@@ -32,9 +32,11 @@ gens_same v n (f ∷ gens) e all =
     let rest = gens_same v n gens e (λ k d within. all (suc k) d (omega (arith, within))) in
     rw rest (ap (λ k. in_variables k f.terms ∷ gens) (sym first))
 
+-- Generators in n variables have n.
 pub variables_of : (p n d : ℕ) (gens : List Polynomial) → All (IsGenerator p n d) gens → All (λ (f : Polynomial). f.n ≡ n) gens
 variables_of p n d gens all = λ k x within. (all k x within).variables
 
+-- The terms of polynomials of the ring are those that they were made of.
 pub terms_of_ring : (v : Values) (gens : List Poly) → map (λ f. f.terms) (in_ring_of v gens) ≡ gens
 terms_of_ring v [] = refl
 terms_of_ring v (g ∷ gens) = ap (λ l. g ∷ l) (terms_of_ring v gens)

@@ -31,20 +31,24 @@ pub record ListedSoFar (ring : List ℕ) (whole : Result (List ℕ × Place) Ref
 within : (a z b : ℕ) → (nat_le a b && nat_le b z) ≡ true → (a ≤ b) × (b ≤ z)
 within a z b h = let both = and_parts (nat_le a b) (nat_le b z) h in (leb-true a b both.0, leb-true b z both.1)
 
+-- What is a large or a small letter is alphabetic.
 letter_alphabetic-by : (b : ℕ) (large small : Bool) → (large || small) ≡ true → (large ≡ true → IsAsciiAlphabetic b) → (small ≡ true → IsAsciiAlphabetic b) → IsAsciiAlphabetic b
 letter_alphabetic-by b true small h f g = f refl
 letter_alphabetic-by b false small h f g = g h
 
+-- A letter is alphabetic.
 pub letter_alphabetic : (b : ℕ) → is_letter b ≡ true → IsAsciiAlphabetic b
 letter_alphabetic b h =
     letter_alphabetic-by b (nat_le 65 b && nat_le b 90) (nat_le 97 b && nat_le b 122) h (λ e. inl (within 65 90 b e)) (λ e. inr (within 97 122 b e))
 
+-- A letter that isn't among some differs from each.
 has_letter_at : (letters : List ℕ) (x : ℕ) → has_letter letters x ≡ false → (k : ℕ) (d : ℕ) → k < length letters → get_or letters k d ≢ x
 has_letter_at letters x h k d low = λ e.
     let same : (get_or letters k d == x) ≡ true = eq-eqb (get_or letters k d) x e in
     let found = list_any_at (λ l. l == x) letters k d low same in
     cc
 
+-- Letters with one more that is free are letters.
 pub letters_push : (letters : List ℕ) (x : ℕ) → AreLetters letters → is_letter x ≡ true → has_letter letters x ≡ false → (length letters == 8) ≡ false → AreLetters (letters ++ x ∷ [])
 letters_push letters x l h fresh few = record {
   some = omega (arith, length-append letters (x ∷ []));
@@ -63,6 +67,7 @@ listed_goes-at ring whole letters t x u here shorter e are (suc n) enough reads 
     let one : variables_at (suc n) ring letters t ≡ variables_at n ring (letters ++ x ∷ []) u = rw here (ap (λ (r : Result (ℕ × Place) Refusal). r >>= λ l. variables_at n ring (letters ++ l.0 ∷ []) l.1) e) in
     record { turns = n; enough = omega arith; reads = sym one ∙ reads; are = are }
 
+-- Letters in parentheses go on behind a comma.
 pub listed_goes : (ring : List ℕ) (whole : Result (List ℕ × Place) Refusal) (letters : List ℕ) (t start : Place) (x : ℕ) (u : Place) (made : List ℕ)
     → is_the_mark 44 t.token ≡ true → u.left < t.left → start ≡ next t.rest → variable_at ring letters start ≡ Ok (x, u)
     → is_letter x ≡ true → has_letter letters x ≡ false → (length letters == 8) ≡ false → made ≡ letters ++ x ∷ []
@@ -72,6 +77,7 @@ listed_goes ring whole letters t start x u made here shorter starts e h fresh fe
     subst (λ (l : List ℕ). ListedSoFar ring whole l u) (sym makes)
     (listed_goes-at ring whole letters t x u here shorter at_next (letters_push letters x s.are h fresh few) s.turns s.enough s.reads)
 
+-- What refuses the letter behind a comma refuses them all, where the loop of the grammar has turns left.
 listed_fails-at : (ring : List ℕ) (whole : Result (List ℕ × Place) Refusal) (letters : List ℕ) (t : Place) (f : Refusal)
     → is_the_mark 44 t.token ≡ true → variable_at ring letters (next t.rest) ≡ Err f → (n : ℕ) → t.left < n → variables_at n ring letters t ≡ whole → whole ≡ Err f
 unfolding variables_at
@@ -86,6 +92,7 @@ pub listed_fails : (ring : List ℕ) (whole : Result (List ℕ × Place) Refusal
 listed_fails ring whole letters t start f here starts e s =
     listed_fails-at ring whole letters t f here (subst (λ (p : Place). variable_at ring letters p ≡ Err f) starts e) s.turns s.enough s.reads
 
+-- The ) ends the letters, where the loop of the grammar has turns left.
 listed_ends-at : (ring : List ℕ) (whole : Result (List ℕ × Place) Refusal) (letters : List ℕ) (t : Place)
     → is_the_mark 44 t.token ≡ false → is_the_mark 41 t.token ≡ true → (n : ℕ) → t.left < n → variables_at n ring letters t ≡ whole → whole ≡ Ok (letters, next t.rest)
 unfolding variables_at
@@ -100,6 +107,7 @@ pub listed_ends : (ring : List ℕ) (whole : Result (List ℕ × Place) Refusal)
 listed_ends ring whole letters t after no_comma here ends s =
     listed_ends-at ring whole letters t no_comma here s.turns s.enough s.reads ∙ ap (λ (p : Place). Ok (letters, p)) (sym ends)
 
+-- What is neither a comma nor the ) is refused, where the loop of the grammar has turns left.
 listed_stops-at : (ring : List ℕ) (whole : Result (List ℕ × Place) Refusal) (letters : List ℕ) (t : Place)
     → is_the_mark 44 t.token ≡ false → is_the_mark 41 t.token ≡ false → (n : ℕ) → t.left < n → variables_at n ring letters t ≡ whole → whole ≡ wanted t whats.Comma
 unfolding variables_at
@@ -124,6 +132,7 @@ front_kept-by true close l (Err f) go here stop e kept = refl
 front_kept-by false true l r go here stop e kept = ap (λ (k : List ℕ). Ok (k, here.1)) (sym e)
 front_kept-by false false l r go here stop e kept = refl
 
+-- The first letter stays the first one.
 front_kept : (n : ℕ) (ring : List ℕ) (l : ℕ) (letters : List ℕ) (t : Place) → (variables_at n ring (l ∷ letters) t >>= λ all. Ok (l ∷ tail_of all.0, all.1)) ≡ variables_at n ring (l ∷ letters) t
 unfolding variables_at
 front_kept zero ring l letters t = refl
@@ -144,6 +153,7 @@ letters_listed-by ring (Ok x) =
     twice (Err e) = refl
 letters_listed-by ring (Err e) = refl
 
+-- Behind ( the variables are the letters that are listed.
 pub letters_listed : (ring : List ℕ) (t start : Place) → is_the_mark 40 t.token ≡ true → start ≡ next t.rest → meant letters_of (letters_at ring t) ≡ listed_at ring start
 unfolding letters_at
 letters_listed ring t start here starts =

@@ -19,10 +19,10 @@ use Rattle.script_grammar.specs.First.{refusal_at}
 use Rattle.script_grammar.specs.Spots.{Spot, just, Behind, MustStand, SpotInSum, Here}
 use Rattle.script_grammar.specs.Causes.{is_number, MayNotEnd, IsCause, HasCause, HasCauseInSum, Wanted}
 use Rattle.script_grammar.proofs.Steps.{ok_is, chosen, bind_err, err_is, never, mark_is, word_is, same_refl, Stand-then}
-use Rattle.script_grammar.proofs.FoundTokens.{numeral_found}
+use Rattle.script_grammar.proofs.ReadTokensStand.{numeral_found}
 use Rattle.script_grammar.proofs.TreeTokens.{AreTokens, AreTokens-append, token_no_last}
 use Rattle.script_grammar.proofs.Places.{next_placed, stand_less}
-use Rattle.script_grammar.proofs.LocalLoops.{NotEmpty}
+use Rattle.script_grammar.proofs.LoopsByTokens.{NotEmpty}
 
 -- these tokens, each a word, a string or a mark, lead from one place to another
 abbrev pub Leads : Place → List Token → Place → Type 0
@@ -32,6 +32,7 @@ Leads s tokens t = Stand s tokens t × AreTokens tokens
 pub Leads-then : (s : Place) (a : List Token) (t : Place) (b : List Token) (u : Place) → Leads s a t → Stand t b u → AreTokens b → Leads s (a ++ b) u
 Leads-then s a t b u st on tokens = (Stand-then s a t b u st.0 on, AreTokens-append a b st.1 tokens)
 
+-- No test comes out both ways.
 pub not_both : (b : Bool) → b ≡ false → b ≡ true → ⊥
 not_both b p q = cc
 

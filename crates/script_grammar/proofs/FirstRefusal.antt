@@ -17,17 +17,20 @@ use Rattle.script_grammar.proofs.CauseSteps.{cause_of}
 use Rattle.script_grammar.proofs.SumCauses.{expression_caused}
 use Rattle.script_grammar.proofs.ScriptCauses.{tree_caused}
 use Rattle.script_grammar.proofs.Steps.{bind_err, never}
-use Rattle.script_grammar.proofs.OnlyScript.{script_again}
-use Rattle.script_grammar.proofs.Local.{Any, Local}
-use Rattle.script_grammar.proofs.LocalExpressions.{SpellsSum, expression_local}
-use Rattle.script_grammar.proofs.LocalScript.{just, tree_read, tree_is, SpellsShape, tree_local}
+use Rattle.script_grammar.proofs.ValidScriptIsRead.{script_again}
+use Rattle.script_grammar.proofs.ByTokens.{Any, Local}
+use Rattle.script_grammar.proofs.ExpressionsByTokens.{SpellsSum, expression_local}
+use Rattle.script_grammar.proofs.ScriptByTokens.{just, tree_read, tree_is, SpellsShape, tree_local}
 
+-- What refuses a tree refuses it where the place behind is kept too.
 read_fails : (t : Place) (f : Refusal) → tree_at t ≡ Err f → tree_read t ≡ Err f
 read_fails t f e = elim (bind_err (tree_read t) just f (sym (tree_is t) ∙ e)) [ inl early ↦ early | inr late ↦ absurd (never late.0.0 f late.2) ]
 
+-- What refuses a tree with the place behind it refuses the tree.
 tree_refuses : (t : Place) (f : Refusal) → tree_read t ≡ Err f → tree_at t ≡ Err f
 tree_refuses t f e = tree_is t ∙ ap (λ (r : Result (Tree × Place) Refusal). r >>= just) e
 
+-- The refusal of a script is the first one, with its cause.
 pub first_is : (bytes : List ℕ) (f : Refusal) → script_of bytes ≡ Err f → IsFirst bytes f
 unfolding script_of
 first_is bytes f e =
@@ -57,11 +60,13 @@ first_is bytes f e =
 abbrev Never : ReadKind → List Token → Type 0
 Never kind between = ⊥
 
+-- Where no kind is known later, a refusal is known at the place that it names.
 at_place : (place at : Place) (between : List Token) (kind : ReadKind) → Stand place between at → (between ≡ []) ⊎ Never kind between → place ≡ at
 at_place place at [] kind st (inl e) = st
 at_place place at (i ∷ between) kind st (inl e) = absurd cc
 at_place place at between kind st (inr e) = absurd e
 
+-- Where no kind is known later, nothing stands between the place of a refusal and itself.
 stand_here : (p v : Place) (between : List Token) (kind : ReadKind) → p ≡ v → (between ≡ []) ⊎ Never kind between → Stand p between v
 stand_here p v [] kind e (inl h) = e
 stand_here p v (i ∷ between) kind e (inl h) = absurd cc

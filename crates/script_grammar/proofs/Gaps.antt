@@ -13,6 +13,7 @@ Behind opened bytes rest = (b : ℕ) × (body : List ℕ) × (gaps : List Gap) �
 Behind block bytes rest = (body : List ℕ) × (gaps : List Gap) × (no_close body ≡ true) × ValidGaps gaps × (bytes ≡ body ++ 42 ∷ 47 ∷ (gaps_bytes gaps ++ rest))
 Behind closed bytes rest = (b : ℕ) × (gaps : List Gap) × ValidGaps gaps × (bytes ≡ b ∷ (gaps_bytes gaps ++ rest))
 
+-- A / with c behind it is what two tests say.
 both_are : (b c : ℕ) (bytes : List ℕ) → (eqb b 47 && begins c bytes) ≡ true → (b ≡ 47) × (begins c bytes ≡ true)
 both_are b c bytes h = let p = and_parts (eqb b 47) (begins c bytes) h in (eqb-true b 47 p.0, p.1)
 
@@ -40,6 +41,7 @@ line_gap b bytes rest h s =
     let n = note_from s.0 s.1 bytes rest p.1 s.2 s.3 s.4 in
     (n.0, n.1, ap (λ (k : ℕ). k ∷ bytes) p.0 ∙ n.2)
 
+-- A comment that begins with /* is a gap before what stands behind it.
 block_gap : (b : ℕ) (bytes rest : List ℕ) → (eqb b 47 && begins 42 bytes) ≡ true → Behind opened bytes rest → Behind blanks (b ∷ bytes) rest
 unfolding Behind
 block_gap b bytes rest h s =
@@ -51,6 +53,7 @@ block_gap b bytes rest h s =
           ∙ ap (λ (x : List ℕ). 47 ∷ 42 ∷ x) (sym (append_assoc s.1 (42 ∷ 47 ∷ []) (gaps_bytes s.2 ++ rest)) ∙ sym (append_assoc (s.1 ++ 42 ∷ 47 ∷ []) (gaps_bytes s.2) rest)),
     )
 
+-- What is false isn't so.
 pub false_not : (c : Bool) → c ≡ false → not c ≡ true
 false_not true e = sym e
 false_not false e = refl
@@ -66,22 +69,27 @@ no_close_on b (c ∷ body) more bytes e h = sym (ap (λ (x : List ℕ). eqb b 42
 
 -- ---- one more byte in front
 
+-- Behind a blank goes on what goes on behind it.
 behind_blank : (b : ℕ) (bytes rest : List ℕ) → is_blank b ≡ true → Behind blanks bytes rest → Behind blanks (b ∷ bytes) rest
 unfolding Behind
 behind_blank b bytes rest h s = (blank b ∷ s.0, (h, s.1), ap (λ (x : List ℕ). b ∷ x) s.2)
 
+-- A newline ends a comment up to the line's end.
 behind_newline : (b : ℕ) (bytes rest : List ℕ) → eqb b 10 ≡ true → Behind blanks bytes rest → Behind line (b ∷ bytes) rest
 unfolding Behind
 behind_newline b bytes rest h s = ([], s.0, refl, s.1, ap (λ (k : ℕ). k ∷ bytes) (eqb-true b 10 h) ∙ ap (λ (x : List ℕ). 10 ∷ x) s.2)
 
+-- In a comment up to the line's end any byte but a newline goes on.
 behind_line : (b : ℕ) (bytes rest : List ℕ) → eqb b 10 ≡ false → Behind line bytes rest → Behind line (b ∷ bytes) rest
 unfolding Behind
 behind_line b bytes rest h s = (b ∷ s.0, s.1, and_from (not (eqb b 10)) (no_newline s.0) (false_not (eqb b 10) h) s.2, s.3, ap (λ (x : List ℕ). b ∷ x) s.4)
 
+-- Behind the first byte of /* the comment begins.
 behind_opened : (b : ℕ) (bytes rest : List ℕ) → Behind block bytes rest → Behind opened (b ∷ bytes) rest
 unfolding Behind
 behind_opened b bytes rest s = (b, s.0, s.1, s.2, s.3, ap (λ (x : List ℕ). b ∷ x) s.4)
 
+-- The bytes */ end a comment.
 behind_close : (b : ℕ) (bytes rest : List ℕ) → (eqb b 42 && begins 47 bytes) ≡ true → Behind closed bytes rest → Behind block (b ∷ bytes) rest
 unfolding Behind
 behind_close b bytes rest h s =
@@ -89,12 +97,14 @@ behind_close b bytes rest h s =
     let slash : 47 ≡ s.0 = eqb-true 47 s.0 (sym (ap (begins 47) s.3) ∙ p.1) in
     ([], s.1, refl, s.2, ap (λ (k : ℕ). k ∷ bytes) (eqb-true b 42 p.0) ∙ ap (λ (x : List ℕ). 42 ∷ x) (s.3 ∙ ap (λ (k : ℕ). k ∷ (gaps_bytes s.1 ++ rest)) (sym slash)))
 
+-- In a comment any byte that doesn't begin */ goes on.
 behind_block : (b : ℕ) (bytes rest : List ℕ) → (eqb b 42 && begins 47 bytes) ≡ false → Behind block bytes rest → Behind block (b ∷ bytes) rest
 unfolding Behind
 behind_block b bytes rest h s =
     let on : not (eqb b 42 && begins 47 s.0) ≡ true = false_not (eqb b 42 && begins 47 s.0) (no_close_on b s.0 (42 ∷ 47 ∷ (gaps_bytes s.1 ++ rest)) bytes s.4 h) in
     (b ∷ s.0, s.1, and_from (not (eqb b 42 && begins 47 s.0)) (no_close s.0) on s.2, s.3, ap (λ (x : List ℕ). b ∷ x) s.4)
 
+-- Behind the first byte of */ blanks go on.
 behind_closed : (b : ℕ) (bytes rest : List ℕ) → Behind blanks bytes rest → Behind closed (b ∷ bytes) rest
 unfolding Behind
 behind_closed b bytes rest s = (b, s.0, s.1, ap (λ (x : List ℕ). b ∷ x) s.2)
@@ -119,22 +129,27 @@ Open closed bytes o = (bytes ≡ []) × (o ≡ None)
 abbrev Skipped : Layout → List ℕ → Option (List ℕ) → Type 0
 Skipped m bytes o = ((last : List ℕ) × Behind m bytes last × Stop last o) ⊎ Open m bytes o
 
+-- What both branches of a test skip, the test skips.
 skipped_cond : (m : Layout) (bytes : List ℕ) (b : Bool) (x y : Option (List ℕ)) → (b ≡ true → Skipped m bytes x) → (b ≡ false → Skipped m bytes y) → Skipped m bytes (cond b x y)
 skipped_cond m bytes true x y p q = p refl
 skipped_cond m bytes false x y p q = q refl
 
+-- A blank is skipped with what is skipped behind it.
 skipped_blank : (b : ℕ) (bytes : List ℕ) (o : Option (List ℕ)) → is_blank b ≡ true → Skipped blanks bytes o → Skipped blanks (b ∷ bytes) o
 unfolding Open
 skipped_blank b bytes o h (inl s) = inl (s.0, behind_blank b bytes s.0 h s.1, s.2)
 skipped_blank b bytes o h (inr e) = absurd e
 
+-- No byte begins nothing.
 not_begun : (b : ℕ) → begins b [] ≡ true → ⊥
 not_begun b h = cc
 
+-- Bytes that begin with b are b and others.
 begins_behind : (b : ℕ) (bytes : List ℕ) → begins b bytes ≡ true → (body : List ℕ) × (bytes ≡ b ∷ body)
 begins_behind b [] h = absurd cc
 begins_behind b (c ∷ body) h = (body, ap (λ (k : ℕ). k ∷ body) (sym (eqb-true b c h)))
 
+-- A comment up to the line's end is skipped with what is behind it.
 skipped_note : (b : ℕ) (bytes : List ℕ) (o : Option (List ℕ)) → (eqb b 47 && begins 47 bytes) ≡ true → Skipped line bytes o → Skipped blanks (b ∷ bytes) o
 unfolding Open Behind
 skipped_note b bytes o h (inl s) = inl (s.0, line_gap b bytes s.0 h s.1, s.2)
@@ -144,6 +159,7 @@ skipped_note b bytes o h (inr e) =
     let clean = and_parts (not (eqb 47 10)) (no_newline n.0) (sym (ap no_newline n.1) ∙ e.0) in
     inl (b ∷ bytes, ([], tt, refl), in_note n.0 clean.1 (ap (λ (k : ℕ). k ∷ bytes) p.0 ∙ ap (λ (x : List ℕ). 47 ∷ x) n.1) e.1)
 
+-- A comment up to */ is skipped with what is behind it.
 skipped_remark : (b : ℕ) (bytes : List ℕ) (o : Option (List ℕ)) → (eqb b 47 && begins 42 bytes) ≡ true → Skipped opened bytes o → Skipped blanks (b ∷ bytes) o
 unfolding Open Behind
 skipped_remark b bytes o h (inl s) = inl (s.0, block_gap b bytes s.0 h s.1, s.2)
@@ -156,21 +172,25 @@ skipped_remark b bytes o h (inr e) =
           inl (b ∷ bytes, ([], tt, refl), in_remark s.1 s.3 (ap (λ (k : ℕ). k ∷ bytes) p.0 ∙ ap (λ (x : List ℕ). 47 ∷ x) (s.2 ∙ ap (λ (k : ℕ). k ∷ s.1) (sym star))) e.1)
     ]
 
+-- The newline that ends a comment is skipped with what is behind it.
 skipped_newline : (b : ℕ) (bytes : List ℕ) (o : Option (List ℕ)) → eqb b 10 ≡ true → Skipped blanks bytes o → Skipped line (b ∷ bytes) o
 unfolding Open
 skipped_newline b bytes o h (inl s) = inl (s.0, behind_newline b bytes s.0 h s.1, s.2)
 skipped_newline b bytes o h (inr e) = absurd e
 
+-- A byte of a comment up to the line's end is skipped with what is behind it.
 skipped_line : (b : ℕ) (bytes : List ℕ) (o : Option (List ℕ)) → eqb b 10 ≡ false → Skipped line bytes o → Skipped line (b ∷ bytes) o
 unfolding Open
 skipped_line b bytes o h (inl s) = inl (s.0, behind_line b bytes s.0 h s.1, s.2)
 skipped_line b bytes o h (inr e) = inr (and_from (not (eqb b 10)) (no_newline bytes) (false_not (eqb b 10) h) e.0, e.1)
 
+-- The second byte of /* is skipped with what is behind it.
 skipped_opened : (b : ℕ) (bytes : List ℕ) (o : Option (List ℕ)) → Skipped block bytes o → Skipped opened (b ∷ bytes) o
 unfolding Open
 skipped_opened b bytes o (inl s) = inl (s.0, behind_opened b bytes s.0 s.1, s.2)
 skipped_opened b bytes o (inr e) = inr (inr (b, bytes, refl, e.0), e.1)
 
+-- The first byte of */ is skipped with what is behind it.
 skipped_close : (b : ℕ) (bytes : List ℕ) (o : Option (List ℕ)) → (eqb b 42 && begins 47 bytes) ≡ true → Skipped closed bytes o → Skipped block (b ∷ bytes) o
 unfolding Open
 skipped_close b bytes o h (inl s) = inl (s.0, behind_close b bytes s.0 h s.1, s.2)
@@ -178,16 +198,19 @@ skipped_close b bytes o h (inr e) =
     let p = and_parts (eqb b 42) (begins 47 bytes) h in
     absurd (not_begun 47 (sym (ap (begins 47) e.0) ∙ p.1))
 
+-- A byte of a comment up to */ is skipped with what is behind it.
 skipped_block : (b : ℕ) (bytes : List ℕ) (o : Option (List ℕ)) → (eqb b 42 && begins 47 bytes) ≡ false → Skipped block bytes o → Skipped block (b ∷ bytes) o
 unfolding Open
 skipped_block b bytes o h (inl s) = inl (s.0, behind_block b bytes s.0 h s.1, s.2)
 skipped_block b bytes o h (inr e) = inr (and_from (not (eqb b 42 && begins 47 bytes)) (no_close bytes) (false_not (eqb b 42 && begins 47 bytes) h) e.0, e.1)
 
+-- The second byte of */ is skipped with what is behind it.
 skipped_closed : (b : ℕ) (bytes : List ℕ) (o : Option (List ℕ)) → Skipped blanks bytes o → Skipped closed (b ∷ bytes) o
 unfolding Open
 skipped_closed b bytes o (inl s) = inl (s.0, behind_closed b bytes s.0 s.1, s.2)
 skipped_closed b bytes o (inr e) = absurd e
 
+-- What is skipped is a gap, or the input ends in a comment.
 skip_is : (m : Layout) (bytes : List ℕ) → Skipped m bytes (skip m bytes)
 unfolding skip Open Behind
 skip_is blanks [] = inl ([], ([], tt, refl), at_end refl refl)
@@ -209,6 +232,7 @@ skip_is closed (b ∷ bytes) = skipped_closed b bytes _ (skip_is blanks bytes)
 abbrev pub StopsBehind : List ℕ → Option (List ℕ) → Type 0
 StopsBehind bytes o = (gaps : List Gap) × (last : List ℕ) × ValidGaps gaps × (bytes ≡ gaps_bytes gaps ++ last) × Stop last o
 
+-- From blanks on, skipping stops behind gaps, at a token, the end or a comment that isn't closed.
 pub skip_blanks_is : (bytes : List ℕ) → StopsBehind bytes (skip blanks bytes)
 unfolding Open Behind
 skip_blanks_is bytes = from_skipped (skip blanks bytes) (skip_is blanks bytes)

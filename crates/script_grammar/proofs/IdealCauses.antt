@@ -1,5 +1,7 @@
 -- Each refusal in the statement of a polynomial or an ideal has its cause.
 -- The members of an ideal one by one and with their loop; behind each, what may come is told by the member.
+use Rattle.script_grammar.specs.declared.refusal.ReadKind.{ReadKind}
+use Rattle.script_grammar.specs.Causes.{IsCause}
 use Rattle.std.proofs.Common.{◌≡◌, ℕ, suc, ◌+◌, ◌≤◌, ◌<◌, true, false, cond, not, ◌||◌, eqb, List, [], ◌∷◌, ◌++◌, length, Result, Ok, Err, refl, sym, ap, subst, ◌∙◌, ◌⊎◌, inl, inr, arith, nat_lt, append_assoc}
 use Rattle.std.proofs.lemmas.Bool.{eqb-true, eqb-false, ltb-true, ltb-false, or_cases, or_parts, not-true, not-false}
 use Rattle.std.specs.Prelude.{codes}
@@ -11,18 +13,18 @@ use Rattle.script_grammar.specs.Words.{is_numeral, is_one_of, keywords, is_short
 use Rattle.script_grammar.specs.Trees.{sum_tokens, Member, generator, jacobian, member_tokens, Members, only, more, members_tokens, Statement, poly, ideal, one}
 use Rattle.script_grammar.specs.Steps.{◌>>=◌, refused, kind_at, mark_at}
 use Rattle.script_grammar.specs.Expressions.{Declarations, expression_at}
-use Rattle.script_grammar.specs.Statements.{name_among, poly_at, no_room as no_room_at, count_of, member_at, members_at, ideal_at}
+use Rattle.script_grammar.specs.Statements.{name_among, poly_at, no_room as no_room_at, count_of, member_at, members_at, ideal_at, no_room_kind, members_from}
 use Rattle.script_grammar.specs.Valid.{Stand, IsNew, IsOneOf, ValidMembers}
 use Rattle.script_grammar.specs.Places.{Placed}
 use Rattle.script_grammar.specs.First.{refusal_at}
 use Rattle.script_grammar.specs.Spots.{behind_power, behind_jacobian, no_room, Behind, BeforeStatement, BeforeMember, BeforeArgument, of_again, of_jacob, Here, of_new_name, of_argument, of_end, of_jacobian}
 use Rattle.script_grammar.proofs.Places.{next_placed, stand_placed, behind_mark}
 use Rattle.script_grammar.proofs.Steps.{ok_is, bind_ok, bind_err, chosen, went_on, err_is, never, mark_is, word_is}
-use Rattle.script_grammar.proofs.FoundExpressions.{expression_found}
-use Rattle.script_grammar.proofs.FoundSteps.{mark_step, name_among_step}
-use Rattle.script_grammar.proofs.FoundIdeals.{member_found, no_room_never}
+use Rattle.script_grammar.proofs.ReadExpressionsAreValid.{expression_found}
+use Rattle.script_grammar.proofs.StepsBehindRead.{mark_step, name_among_step}
+use Rattle.script_grammar.proofs.ReadIdealsAreValid.{member_found, no_room_never}
 use Rattle.script_grammar.proofs.TreeTokens.{AreTokens-sum, AreTokens-member}
-use Rattle.script_grammar.proofs.LocalMembers.{comma_member, last_member, more_members, members_loop}
+use Rattle.script_grammar.proofs.IdealsByTokens.{comma_member, last_member, more_members, members_loop}
 use Rattle.script_grammar.proofs.LoopEnds.{LoopEnds, loop_ends}
 use Rattle.script_grammar.proofs.CauseSteps.{Leads, Leads-then, stand_behind, Caused, refused_here, behind_on, behind_first, mark_or}
 use Rattle.script_grammar.proofs.SumCauses.{expression_ended}
@@ -76,29 +78,35 @@ module _ (s : Place) where
   ]
 
   -- ---- members
-  -- Where there is no room for a member, its first token is refused for that, or for what an operand is refused for.
-  no_room_caused : {A : Type 0} (known : Declarations) (c : List Token) (t : Place) (f : Refusal) → Leads s c t → BeforeMember known 64 c → no_room_at {A = A} known t ≡ Err f → Caused s f
-  no_room_caused known c t f st here e =
-      let w = word_of t.token in
-      elim (chosen (is_word t.token) _ _ _ e) [
-        | inl is ↦ elim (chosen (is_numeral w) _ _ _ is.1) [
-          | inl numeral ↦ refused_here s known no_room TooManyGenerators c t f st here (inl refl) (inr refl) (λ i. inl (is.0, inl numeral.0)) numeral.1
-          | inr other ↦ elim (chosen (is_one_of keywords w) _ _ _ other.1) [
-            | inl keyword ↦ refused_here s known no_room UnknownName c t f st here (inl refl) (inr refl) (λ i. (is.0, inl keyword.0)) keyword.1
-            | inr free ↦ elim (chosen (is_one_of known.polys w) _ _ _ free.1) [
-              | inl named ↦ refused_here s known no_room TooManyGenerators c t f st here (inl refl) (inr refl) (λ i. inl (is.0, inr (free.0, inl named.0))) named.1
-              | inr strange ↦ elim (chosen (not (is_short known.letters w)) _ _ _ strange.1) [
-                | inl long ↦ refused_here s known no_room UnknownName c t f st here (inl refl) (inr refl) (λ i. (is.0, inr (other.0, strange.0, not-true (is_short known.letters w) long.0))) long.1
-                | inr short ↦
-                    let fits = not-false (is_short known.letters w) short.0 in
-                    elim (chosen (has_large w) _ _ _ short.1) [
-                      | inl large ↦ refused_here s known no_room ExponentTooLarge c t f st here (inl refl) (inr refl) (λ i. (is.0, (free.0, other.0, strange.0, fits, large.0))) large.1
-                      | inr small ↦ refused_here s known no_room TooManyGenerators c t f st here (inl refl) (inr refl) (λ i. inl (is.0, inr (free.0, inr (fits, small.0)))) small.1
-                    ]
-              ]
+  -- Where there is no room for a member, a word is refused for that, or for what an operand is refused for.
+  no_room_word : (known : Declarations) (i : Token) (kind : ReadKind) → is_word i ≡ true → no_room_kind known (word_of i) ≡ kind → IsCause kind known no_room i
+  no_room_word known i kind is e =
+      let w = word_of i in
+      let by = λ (k : ReadKind) (same : k ≡ kind) (h : IsCause k known no_room i). subst (λ (r : ReadKind). IsCause r known no_room i) same h in
+      elim (chosen (is_numeral w) _ _ _ e) [
+        | inl numeral ↦ by TooManyGenerators numeral.1 (inl (is, inl numeral.0))
+        | inr other ↦ elim (chosen (is_one_of keywords w) _ _ _ other.1) [
+          | inl keyword ↦ by UnknownName keyword.1 (is, inl keyword.0)
+          | inr free ↦ elim (chosen (is_one_of known.polys w) _ _ _ free.1) [
+            | inl named ↦ by TooManyGenerators named.1 (inl (is, inr (free.0, inl named.0)))
+            | inr strange ↦ elim (chosen (not (is_short known.letters w)) _ _ _ strange.1) [
+              | inl long ↦ by UnknownName long.1 (is, inr (other.0, strange.0, not-true (is_short known.letters w) long.0))
+              | inr short ↦
+                  let fits = not-false (is_short known.letters w) short.0 in
+                  elim (chosen (has_large w) _ _ _ short.1) [
+                    | inl large ↦ by ExponentTooLarge large.1 (is, (free.0, other.0, strange.0, fits, large.0))
+                    | inr small ↦ by TooManyGenerators small.1 (inl (is, inr (free.0, inr (fits, small.0))))
+                  ]
             ]
           ]
         ]
+      ]
+
+  -- Where there is no room for a member, its first token is refused for that, or for what an operand is refused for.
+  no_room_caused : {A : Type 0} (known : Declarations) (c : List Token) (t : Place) (f : Refusal) → Leads s c t → BeforeMember known 64 c → no_room_at {A = A} known t ≡ Err f → Caused s f
+  no_room_caused known c t f st here e =
+      elim (chosen (is_word t.token) _ _ _ e) [
+        | inl is ↦ refused_here s known no_room (no_room_kind known (word_of t.token)) c t f st here (inl refl) (inr refl) (λ i. no_room_word known t.token (no_room_kind known (word_of t.token)) is.0 refl) is.1
         | inr no_word ↦ elim (chosen (is_the_mark 40 t.token || (is_the_mark 43 t.token || is_the_mark 45 t.token)) _ _ _ no_word.1) [
           | inl begins ↦ refused_here s known no_room TooManyGenerators c t f st here (inl refl) (inr refl) (λ i. inr (one_of_three begins.0)) begins.1
           | inr none ↦
@@ -254,20 +262,20 @@ module _ (s : Place) where
 
   -- An ideal is refused behind its = where its first member is, or one behind it.
   ideal_members_caused : (known : Declarations) (name : List ℕ) (c : List Token) (t : Place) (f : Refusal) → 1 < known.prime → IdealBegins known c → Leads s c t → Placed t
-      → (member_at known 0 t >>= λ first. members_at (suc first.1.left) known (only first.0) first.1 >>= ideal_of name) ≡ Err f → Caused s f
+      → (members_from known t >>= ideal_of name) ≡ Err f → Caused s f
   ideal_members_caused known name c t f prime b st placed e =
       let here : BeforeMember known 0 c = (b.0, b.1, b.2, inl (b.3, refl)) in
-      elim (bind_err (member_at known 0 t) _ f e) [
-        | inl early ↦ member_caused known 0 c t f prime (omega arith) st placed here early
-        | inr late ↦
+      elim (bind_err (members_from known t) (ideal_of name) f e) [
+        | inr all ↦ absurd (never _ f all.2)
+        | inl inside ↦ elim (bind_err (member_at known 0 t) _ f inside) [
+          | inl early ↦ member_caused known 0 c t f prime (omega arith) st placed here early
+          | inr late ↦
             let m = late.0 in
             let is = member_found known 0 t m (omega arith) late.1 in
             let there = stand_placed t (member_tokens m.0) m.1 placed is.stand in
             let k : Membered known c (only m.0) m.1 = record { leads = Leads-then s c t (member_tokens m.0) m.1 st is.stand (AreTokens-member m.0); valid = is.valid; few = omega (arith, is.fits); behind = member_behind known 0 c t m.0 m.1 (omega arith) placed here late.1 } in
-            elim (bind_err (members_at (suc m.1.left) known (only m.0) m.1) _ f late.2) [
-              | inl inside ↦ members_caused known c (only m.0) m.1 f prime b k there.1 inside
-              | inr all ↦ absurd (never _ f all.2)
-            ]
+            members_caused known c (only m.0) m.1 f prime b k there.1 late.2
+        ]
       ]
 
   -- The statement of an ideal is refused where its name is, the = behind it, std( ) with its end, or a member.

@@ -12,6 +12,7 @@ use Rattle.script_grammar.specs.Ends.{IsLastLine, SpellsEnd, IsOpenRemark, IsOpe
 
 -- ---- gaps are skipped
 
+-- A comment up to the line's end is skipped.
 skip_note : (body more : List ℕ) → no_newline body ≡ true → skip line (body ++ 10 ∷ more) ≡ skip blanks more
 unfolding skip
 skip_note [] more h = refl
@@ -28,6 +29,7 @@ begins_body b [] more h = and_off (eqb b 42)
     and_off false = refl
 begins_body b (c ∷ body) more h = h
 
+-- A comment up to */ is skipped.
 skip_remark : (body more : List ℕ) → no_close body ≡ true → skip block (body ++ 42 ∷ 47 ∷ more) ≡ skip blanks more
 unfolding skip
 skip_remark [] more h = refl
@@ -35,36 +37,44 @@ skip_remark (b ∷ body) more h =
     let p = and_parts (not (eqb b 42 && begins 47 body)) (no_close body) h in
     ap (λ (c : Bool). cond c (skip closed (body ++ 42 ∷ 47 ∷ more)) (skip block (body ++ 42 ∷ 47 ∷ more))) (begins_body b body more (not-true (eqb b 42 && begins 47 body) p.0)) ∙ skip_remark body more p.1
 
+-- One blank or comment is skipped.
 skip_gap : (g : Gap) (more : List ℕ) → ValidGap g → skip blanks (gap_bytes g ++ more) ≡ skip blanks more
 unfolding skip
 skip_gap (blank b) more h = rw h refl
 skip_gap (note body) more h = ap (skip line) (append_assoc (47 ∷ body) (10 ∷ []) more) ∙ skip_note body more h
 skip_gap (remark body) more h = ap (λ (x : List ℕ). skip opened (42 ∷ x)) (append_assoc body (42 ∷ 47 ∷ []) more) ∙ skip_remark body more h
 
+-- Blanks and comments are skipped.
 skip_gaps : (gaps : List Gap) (more : List ℕ) → ValidGaps gaps → skip blanks (gaps_bytes gaps ++ more) ≡ skip blanks more
 skip_gaps [] more h = refl
 skip_gaps (g ∷ gaps) more h = ap (skip blanks) (append_assoc (gap_bytes g) (gaps_bytes gaps) more) ∙ skip_gap g (gaps_bytes gaps ++ more) h.0 ∙ skip_gaps gaps more h.1
 
 -- ---- the token is read
 
+-- A letter or a digit is no blank.
 word_not_blank : (b : ℕ) → is_word_byte b ≡ true → is_blank b ≡ false
 word_not_blank b h = grind (arith, nat_tests)
 
+-- A letter or a digit is no /.
 word_no_slash : (b : ℕ) → is_word_byte b ≡ true → eqb b 47 ≡ false
 word_no_slash b h = grind (arith, nat_tests)
 
+-- A mark is no blank.
 mark_not_blank : (b : ℕ) → is_mark b ≡ true → is_blank b ≡ false
 mark_not_blank b h = grind (arith, nat_tests)
 
+-- A mark is no letter and no digit.
 mark_no_word : (b : ℕ) → is_mark b ≡ true → is_word_byte b ≡ false
 mark_no_word b h = grind (arith, nat_tests)
 
+-- A word ends where no letter or digit goes on.
 word_run : (w rest : List ℕ) → all_word w ≡ true → begins_word rest ≡ false → word_len (w ++ rest) ≡ length w
 unfolding word_len
 word_run [] [] h k = refl
 word_run [] (b ∷ rest) h k = rw k refl
 word_run (b ∷ w) rest h k = let p = and_parts (is_word_byte b) (all_word w) h in rw p.0 (ap suc (word_run w rest p.1 k))
 
+-- A string ends at the first ".
 text_run : (s rest : List ℕ) → no_quote s ≡ true → text_len (s ++ 34 ∷ rest) ≡ Some (length s)
 unfolding text_len
 text_run [] rest h = refl
@@ -72,14 +82,17 @@ text_run (b ∷ s) rest h =
     let p = and_parts (not (eqb b 34)) (no_quote s) h in
     ap (λ (c : Bool). cond c (Some 0) (option_map (λ n. suc n) (text_len (s ++ 34 ∷ rest)))) (not-true (eqb b 34) p.0) ∙ ap (option_map (λ n. suc n)) (text_run s rest p.1)
 
+-- Skipping stops at a byte that is no blank and begins no comment.
 stops_here : (b : ℕ) (rest : List ℕ) → is_blank b ≡ false → (eqb b 47 && begins 47 rest) ≡ false → (eqb b 47 && begins 42 rest) ≡ false → skip blanks (b ∷ rest) ≡ Some (b ∷ rest)
 unfolding skip
 stops_here b rest p q r = rw (p, q, r) refl
 
+-- Where the first test fails, both don't hold.
 and_off : (c d : Bool) → c ≡ false → (c && d) ≡ false
 and_off true d e = absurd cc
 and_off false d e = refl
 
+-- A word in front is the token in front.
 front_word : (b : ℕ) (w rest : List ℕ) → all_word (b ∷ w) ≡ true → begins_word rest ≡ false → front ((b ∷ w) ++ rest) ≡ found_token (word (b ∷ w)) rest
 unfolding front
 front_word b w rest h k =
@@ -87,10 +100,12 @@ front_word b w rest h k =
     let n : word_len (b ∷ (w ++ rest)) ≡ suc (length w) = word_run (b ∷ w) rest h k in
     rw (p.0, n, take_at (b ∷ w) rest (suc (length w)) refl, drop_at (b ∷ w) rest (suc (length w)) refl) refl
 
+-- A mark in front is the token in front.
 front_mark : (m : ℕ) (rest : List ℕ) → is_mark m ≡ true → front (m ∷ rest) ≡ found_token (mark m) rest
 unfolding front
 front_mark m rest h = rw (mark_no_word m h, h) refl
 
+-- A string in front is the token in front.
 front_text : (s rest : List ℕ) → no_quote s ≡ true → front (34 ∷ ((s ++ 34 ∷ []) ++ rest)) ≡ found_token (text s) rest
 unfolding front
 front_text s rest h =
@@ -102,6 +117,7 @@ front_text s rest h =
     let b : string (suc (length whole)) whole (Some (length s)) ≡ record { token = text s; left = suc (length whole); rest = rest } = rw (take_at s (34 ∷ rest) (length s) refl, back) refl in
     ap (λ (x : List ℕ). front (34 ∷ x)) same ∙ a ∙ b ∙ ap (λ (x : List ℕ). record { token = text s; left = suc (length x); rest = rest }) (sym same)
 
+-- A token that is spelled in front is the one that is read.
 token_next : (token : Token) (rest : List ℕ) → ValidItem token rest → front_if (skip blanks (token_bytes token ++ rest)) ≡ found_token token rest
 token_next (word []) rest h = absurd (omega (arith, h.0))
 token_next (word (b ∷ w)) rest h =
@@ -122,6 +138,7 @@ spelled_next bytes token rest s =
 
 -- ---- the end, what isn't closed, and bytes of no token
 
+-- A comment in the last line is skipped up to the end.
 skip_last_line : (body : List ℕ) → no_newline body ≡ true → skip line body ≡ Some []
 unfolding skip
 skip_last_line [] h = refl
@@ -129,6 +146,7 @@ skip_last_line (b ∷ body) h =
     let p = and_parts (not (eqb b 10)) (no_newline body) h in
     ap (λ (c : Bool). cond c (skip blanks body) (skip line body)) (not-true (eqb b 10) p.0) ∙ skip_last_line body p.1
 
+-- Behind /* without */ no token comes.
 skip_open_remark : (body : List ℕ) → no_close body ≡ true → skip block body ≡ None
 unfolding skip
 skip_open_remark [] h = refl
@@ -136,6 +154,7 @@ skip_open_remark (b ∷ body) h =
     let p = and_parts (not (eqb b 42 && begins 47 body)) (no_close body) h in
     ap (λ (c : Bool). cond c (skip closed body) (skip block body)) (not-true (eqb b 42 && begins 47 body) p.0) ∙ skip_open_remark body p.1
 
+-- A string without its " has no end.
 text_unclosed : (body : List ℕ) → no_quote body ≡ true → text_len body ≡ None
 unfolding text_len
 text_unclosed [] h = refl
@@ -143,26 +162,32 @@ text_unclosed (b ∷ body) h =
     let p = and_parts (not (eqb b 34)) (no_quote body) h in
     ap (λ (c : Bool). cond c (Some 0) (option_map (λ n. suc n) (text_len body))) (not-true (eqb b 34) p.0) ∙ ap (option_map (λ n. suc n)) (text_unclosed body p.1)
 
+-- A last line without tokens is skipped up to the end.
 last_line_skipped : (last : List ℕ) → IsLastLine last → skip blanks last ≡ Some []
 unfolding skip
 last_line_skipped last (inl e) = ap (skip blanks) e
 last_line_skipped last (inr s) = ap (skip blanks) s.2 ∙ skip_last_line s.0 s.1
 
+-- A comment that isn't closed cuts the input off.
 open_remark_skipped : (last : List ℕ) → IsOpenRemark last → skip blanks last ≡ None
 unfolding skip
 open_remark_skipped last s = ap (skip blanks) s.2 ∙ skip_open_remark s.0 s.1
 
+-- Without bytes the end stands in front.
 front_end : front [] ≡ the_end
 unfolding front
 front_end = refl
 
+-- A string that isn't closed is cut off.
 front_open_text : (body : List ℕ) → no_quote body ≡ true → front (34 ∷ body) ≡ cut_off
 unfolding front
 front_open_text body h = ap (string (suc (length body)) body) (text_unclosed body h)
 
+-- What is no mark is no /.
 no_mark_no_slash : (b : ℕ) → is_mark b ≡ false → eqb b 47 ≡ false
 no_mark_no_slash b h = grind (arith, nat_tests)
 
+-- A byte of no token in front is a bad one.
 front_bad : (b : ℕ) (rest : List ℕ) → IsBadByte b → front (b ∷ rest) ≡ found_bad b rest
 unfolding front
 front_bad b rest h =
@@ -176,16 +201,20 @@ next_behind : (bytes : List ℕ) (gaps : List Gap) (last : List ℕ) → ValidGa
 unfolding next
 next_behind bytes gaps last valid split = ap (λ (x : List ℕ). front_if (skip blanks x)) split ∙ ap front_if (skip_gaps gaps last valid)
 
+-- Where blanks and comments alone are spelled, the end is next.
 pub end_next : (bytes : List ℕ) → SpellsEnd bytes → next bytes ≡ the_end
 end_next bytes s = next_behind bytes s.0 s.1 s.2 s.3 ∙ ap front_if (last_line_skipped s.1 s.4) ∙ front_end
 
+-- A comment or a string that isn't closed is cut off.
 cut_next-at : (last : List ℕ) → IsOpenRemark last ⊎ IsOpenText last → front_if (skip blanks last) ≡ cut_off
 cut_next-at last (inl s) = ap front_if (open_remark_skipped last s)
 cut_next-at last (inr s) = ap (λ (x : List ℕ). front_if (skip blanks x)) s.2 ∙ ap front_if (stops_here 34 s.0 refl refl refl) ∙ front_open_text s.0 s.1
 
+-- Where a comment or string isn't closed behind blanks and comments, the input is cut off there.
 pub cut_next : (bytes : List ℕ) → SpellsCut bytes → next bytes ≡ cut_off
 cut_next bytes s = next_behind bytes s.0 s.1 s.2 s.3 ∙ cut_next-at s.1 s.4
 
+-- A byte of no token behind blanks and comments is next as a bad one.
 pub bad_next : (bytes : List ℕ) (b : ℕ) (rest : List ℕ) → SpellsBad bytes b rest → next bytes ≡ found_bad b rest
 bad_next bytes b rest s =
     let slash = no_mark_no_slash b s.3.2 in

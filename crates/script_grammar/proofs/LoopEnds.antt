@@ -5,7 +5,7 @@ use Rattle.script_grammar.specs.declared.refusal.Refusal.{Refusal}
 use Rattle.script_grammar.specs.Tokens.{Token, Place}
 use Rattle.script_grammar.specs.Steps.{◌>>=◌}
 use Rattle.script_grammar.specs.Places.{Placed}
-use Rattle.script_grammar.proofs.LocalLoops.{IsLoop}
+use Rattle.script_grammar.proofs.LoopsByTokens.{IsLoop}
 
 -- the end of the loop: what was read so far, and the place where an item is refused or the loop stops
 pub record LoopEnds (S E A : Type 0) (test : S → Token → Bool) (item : S → Place → Result (E × Place) Refusal) (stop : S → Place → Result (A × Place) Refusal) (Kept : S → Place → Type 0) (r : Result (A × Place) Refusal) : Type 0 where

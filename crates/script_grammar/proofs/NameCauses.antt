@@ -16,8 +16,8 @@ use Rattle.script_grammar.specs.Valid.{IsNew, IsOneOf}
 use Rattle.script_grammar.specs.Spots.{a_new_name, a_name_of, Behind, BeforeArgument, Here, of_argument, of_end}
 use Rattle.script_grammar.specs.Causes.{is_name}
 use Rattle.script_grammar.proofs.Steps.{ok_is, bind_err, chosen, never}
-use Rattle.script_grammar.proofs.LocalThen.{bind_assoc}
-use Rattle.script_grammar.proofs.FoundSteps.{new_name_step, name_among_step}
+use Rattle.script_grammar.proofs.ByTokensInTurn.{bind_assoc}
+use Rattle.script_grammar.proofs.StepsBehindRead.{new_name_step, name_among_step}
 use Rattle.script_grammar.proofs.CauseSteps.{Leads, Leads-then, Caused, refused_here, behind_on, behind_first, mark_or}
 
 -- Three steps of reading are the same in either grouping.

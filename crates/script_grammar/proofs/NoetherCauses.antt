@@ -13,7 +13,7 @@ use Rattle.script_grammar.specs.Words.{is_named, is_short, has_large, is_the_mar
 use Rattle.script_grammar.specs.Trees.{Factor, short_word, raised_letter, factor_tokens, Monomial, factor, product, monomial_tokens, one}
 use Rattle.script_grammar.specs.Steps.{◌>>=◌, refused, kind_at, mark_at, exponent_at}
 use Rattle.script_grammar.specs.Expressions.{Declarations}
-use Rattle.script_grammar.specs.Statements.{is_letter_word, factor_at, factors_at, degree_of, noether_at}
+use Rattle.script_grammar.specs.Statements.{is_letter_word, factor_at, factors_at, degree_of, noether_at, monomial_at}
 use Rattle.script_grammar.specs.Valid.{Stand, ValidFactors}
 use Rattle.script_grammar.specs.Places.{Placed}
 use Rattle.script_grammar.specs.First.{refusal_at}
@@ -21,10 +21,10 @@ use Rattle.script_grammar.specs.Spots.{a_factor, an_exponent, behind_monomial, B
 use Rattle.script_grammar.specs.Causes.{is_name, ends_in_letter, IsWholeMonomial, IsLateCause}
 use Rattle.script_grammar.proofs.Places.{next_placed, stand_placed, behind_mark}
 use Rattle.script_grammar.proofs.Steps.{ok_is, bind_err, chosen, went_on, err_is, never, mark_is, some_word_is}
-use Rattle.script_grammar.proofs.FoundSteps.{exponent_step}
-use Rattle.script_grammar.proofs.FoundNoether.{factor_found}
+use Rattle.script_grammar.proofs.StepsBehindRead.{exponent_step}
+use Rattle.script_grammar.proofs.ReadNoetherIsValid.{factor_found}
 use Rattle.script_grammar.proofs.TreeTokens.{AreTokens-factor}
-use Rattle.script_grammar.proofs.LocalNoether.{factors_on, factors_loop, first_word}
+use Rattle.script_grammar.proofs.NoetherByTokens.{factors_on, factors_loop, first_word}
 use Rattle.script_grammar.proofs.LoopEnds.{LoopEnds, loop_ends}
 use Rattle.script_grammar.proofs.CauseSteps.{Leads, Leads-then, stand_behind, Caused, refused_here, exponent_refused, behind_on, mark_or}
 
@@ -38,6 +38,7 @@ ends_by_factor : (m : Monomial) (f : Factor) → ends_in_letter (product m f) �
 ends_by_factor m (short_word w) = refl
 ends_by_factor m (raised_letter w digits) = refl
 
+-- A monomial of one factor ends as that factor does.
 ends_by_first : (f : Factor) → ends_in_letter (factor f) ≡ bare_letter f
 ends_by_first (short_word w) = refl
 ends_by_first (raised_letter w digits) = refl
@@ -158,6 +159,32 @@ module _ (s : Place) where
         | inr stopped ↦ absurd (never _ f stopped.1)
       ]
 
+  -- The monomial is refused where a factor is.
+  monomial_caused : (known : Declarations) (c : List Token) (t : Place) (f : Refusal) → InNoether known [] c → Leads s c t → Placed t → monomial_at known.letters t ≡ Err f → Caused s f
+  monomial_caused known c t f here st placed e = elim (bind_err (factor_at known.letters t) _ f e) [
+    | inl early ↦ factor_caused known c t f st (inl here) early
+    | inr late ↦
+        let x = late.0 in
+        let is = factor_found known.letters t x late.1 in
+        let there = stand_placed t (factor_tokens x.0) x.1 placed is.0 in
+        factors_caused known c (factor x.0) x.1 f here (first_factor known c t x.0 x.1 st late.1) there.1 late.2
+  ]
+
+  -- A monomial that is read is made of factors, and no * is behind it.
+  monomial_kept : (known : Declarations) (c : List Token) (t : Place) (m : Monomial × Place) → Leads s c t → Placed t → monomial_at known.letters t ≡ Ok m → Factored known c m.0 m.1 × (is_the_mark 42 m.1.token ≡ false)
+  monomial_kept known c t m st placed e =
+      let a = bind_ok (factor_at known.letters t) _ m e in
+      let x = a.0 in
+      let is = factor_found known.letters t x a.1 in
+      let there = stand_placed t (factor_tokens x.0) x.1 placed is.0 in
+      let end = factors_end known c (factor x.0) x.1 (Ok m) (first_factor known c t x.0 x.1 st a.1) there.1 a.2 in
+      elim end.ended [
+        | inl refused ↦ absurd (never m refused.1 refused.3)
+        | inr stopped ↦
+            let same : (end.so_far, end.place) ≡ m = ok_is (end.so_far, end.place) m stopped.1 in
+            subst (λ (y : Monomial × Place). Factored known c y.0 y.1 × (is_the_mark 42 y.1.token ≡ false)) same (end.kept, stopped.0)
+      ]
+
   -- ---- the degree
   -- A refusal at the first token of a monomial that is read whole names that place and no other kind.
   late_caused : {A : Type 0} (known : Declarations) (c : List Token) (t : Place) (kind : ReadKind) (m : Monomial) (u : Place) (f : Refusal) → Leads s c t → Stand t (monomial_tokens m) u → ((w : List ℕ) → kind_at (word w) kind ≡ kind) → IsLateCause kind known c t
@@ -216,25 +243,11 @@ module _ (s : Place) where
         let d = c ++ one (mark 61) in
         let start = next t.rest in
         let here : InNoether known [] d = behind_on (one (word (codes "noether"))) c (one (mark 61)) b in
-        elim (bind_err (factor_at known.letters start) _ f a.1) [
-          | inl early ↦ factor_caused known d start f a.0 (inl here) early
+        elim (bind_err (monomial_at known.letters start) _ f a.1) [
+          | inl early ↦ monomial_caused known d start f here a.0 (next_placed t.rest) early
           | inr late ↦
-              let x = late.0 in
-              let k = first_factor known d start x.0 x.1 a.0 late.1 in
-              let is = factor_found known.letters start x late.1 in
-              let there = stand_placed start (factor_tokens x.0) x.1 (next_placed t.rest) is.0 in
-              elim (bind_err (factors_at x.1.left known.letters (factor x.0) x.1) _ f late.2) [
-                | inl inside ↦ factors_caused known d (factor x.0) x.1 f here k there.1 inside
-                | inr all ↦
-                    let m = all.0 in
-                    let end = factors_end known d (factor x.0) x.1 (Ok m) k there.1 all.1 in
-                    elim end.ended [
-                      | inl refused ↦ absurd (never m refused.1 refused.3)
-                      | inr stopped ↦
-                          let same : (end.so_far, end.place) ≡ m = ok_is (end.so_far, end.place) m stopped.1 in
-                          let q = subst (λ (y : Monomial × Place). Factored known d y.0 y.1 × (is_the_mark 42 y.1.token ≡ false)) same (end.kept, stopped.0) in
-                          degree_caused known d start m.0 m.1 f (λ after. (m.0, after)) a.0 here q.0 q.1 all.2
-                    ]
-              ]
+              let m = late.0 in
+              let q = monomial_kept known d start m a.0 (next_placed t.rest) late.1 in
+              degree_caused known d start m.0 m.1 f (λ after. (m.0, after)) a.0 here q.0 q.1 late.2
         ]
   ]

@@ -11,15 +11,18 @@ use Rattle.script_grammar.specs.Places.{is_last, Placed}
 Within : ℕ → Option (List ℕ) → Type 0
 Within n r = IfSome r (λ bytes. length bytes ≤ n)
 
+-- What is within a number of bytes is within more.
 within_more : (n m : ℕ) (r : Option (List ℕ)) → n ≤ m → Within n r → Within m r
 unfolding Within
 within_more n m None le h = tt
 within_more n m (Some bytes) le h = omega arith
 
+-- What both branches of a test are within, the test is within.
 within_cond : (n : ℕ) (b : Bool) (x y : Option (List ℕ)) → Within n x → Within n y → Within n (cond b x y)
 within_cond n true x y p q = p
 within_cond n false x y p q = q
 
+-- Skipping leaves no more bytes than there were.
 skip-within : (l : Layout) (bytes : List ℕ) → Within (length bytes) (skip l bytes)
 unfolding skip Within
 skip-within blanks [] = omega arith
@@ -46,21 +49,26 @@ pub record IsNext (n : ℕ) (t : Place) : Type 0 where
   pub ends : t.left ≡ 0 → is_last t.token ≡ true
   pub last : is_last t.token ≡ true → t.left ≡ 0
 
+-- A test between two next places is one.
 next_cond : (n : ℕ) (b : Bool) (x y : Place) → (b ≡ true → IsNext n x) → IsNext n y → IsNext n (cond b x y)
 next_cond n true x y p q = p refl
 next_cond n false x y p q = q
 
+-- false isn't true.
 no_over : false ≡ true → ⊥
 no_over e = cc
 
+-- A string in front takes a byte at least.
 string_is : (n : ℕ) (rest : List ℕ) (k : Option ℕ) → length rest < n → IsNext n (string n rest k)
 string_is n rest None lt = record { within = omega arith; shorter = omega arith; ends = λ _. refl; last = λ _. refl }
 string_is n rest (Some k) lt = record { within = omega arith; shorter = omega (arith, length-drop (k + 1) rest); ends = λ e. absurd (omega arith); last = λ e. absurd (no_over e) }
 
+-- A word in front takes a byte at least.
 word_some : (b : ℕ) (rest : List ℕ) → is_word_byte b ≡ true → 1 ≤ word_len (b ∷ rest)
 unfolding word_len
 word_some b rest h = subst (λ (d : Bool). 1 ≤ cond d (suc (word_len rest)) 0) (sym h) (omega arith)
 
+-- What is in front takes a byte, or is the end.
 front_is : (bytes : List ℕ) → IsNext (length bytes) (front bytes)
 unfolding front
 front_is [] = record { within = omega arith; shorter = omega arith; ends = λ _. refl; last = λ _. refl }
@@ -71,18 +79,22 @@ front_is (b ∷ rest) =
     (next_cond n (eqb b 34) _ _ (λ _. string_is n rest (text_len rest) (omega arith))
     (record { within = omega arith; shorter = omega arith; ends = λ e. absurd (omega arith); last = λ e. absurd (no_over e) })))
 
+-- What is next in some bytes is next in more.
 more_room : (n m : ℕ) (t : Place) → n ≤ m → IsNext n t → IsNext m t
 more_room n m t le h = record { within = omega arith; shorter = h.shorter; ends = h.ends; last = h.last }
 
+-- What is in front behind what is skipped is next.
 front_if_is : (n : ℕ) (r : Option (List ℕ)) → Within n r → IsNext n (front_if r)
 unfolding Within
 front_if_is n None h = record { within = omega arith; shorter = omega arith; ends = λ _. refl; last = λ _. refl }
 front_if_is n (Some bytes) h = more_room (length bytes) n (front bytes) h (front_is bytes)
 
+-- The next place takes a byte or is the end, within the bytes there are.
 pub next_is : (bytes : List ℕ) → IsNext (length bytes) (next bytes)
 unfolding next
 next_is bytes = front_if_is (length bytes) (skip blanks bytes) (skip-within blanks bytes)
 
+-- Each place that next gives is placed.
 pub next_placed : (bytes : List ℕ) → Placed (next bytes)
 next_placed bytes = let n = next_is bytes in record { shorter = n.shorter; ends = n.ends; last = n.last }
 
@@ -94,6 +106,7 @@ stand_placed t (i ∷ tokens) u h p =
     let r = stand_placed (next t.rest) tokens u (next_placed t.rest) p.1 in
     (omega (arith, h.shorter, n.within), r.1)
 
+-- Where only the end leaves nothing, another token leaves a byte.
 some_left-at : (n : ℕ) (i : Token) → (n ≡ 0 → is_last i ≡ true) → is_last i ≡ false → 0 < n
 some_left-at zero i ends here = absurd (no_over (sym here ∙ ends refl))
 some_left-at (suc n) i ends here = omega arith
@@ -115,6 +128,7 @@ abbrev pub begins_with_word : List Token → Bool
 begins_with_word [] = false
 begins_with_word (i ∷ tokens) = is_word i
 
+-- A word isn't the end.
 word_no_last : (i : Token) → is_word i ≡ true → is_last i ≡ false
 word_no_last (word w) h = refl
 word_no_last (text w) h = absurd cc
@@ -123,6 +137,7 @@ word_no_last bad h = absurd cc
 word_no_last end h = absurd cc
 word_no_last cut h = absurd cc
 
+-- Behind tokens that begin with a word less is left.
 pub behind_word : (t : Place) (tokens : List Token) (u : Place) → Placed t → begins_with_word tokens ≡ true → Stand t tokens u → (u.left < t.left) × Placed u × (is_word t.token ≡ true)
 behind_word t [] u h begins p = absurd cc
 behind_word t (i ∷ tokens) u h begins p =
@@ -130,6 +145,7 @@ behind_word t (i ∷ tokens) u h begins p =
     let r = stand_less t i tokens u h (word_no_last t.token here) p in
     (r.0, r.1, here)
 
+-- A word isn't the end of the input.
 pub word_no_end : (i : Token) → is_word i ≡ true → is_the_end i ≡ false
 word_no_end (word w) h = refl
 word_no_end (text w) h = absurd cc

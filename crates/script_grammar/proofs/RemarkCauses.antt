@@ -16,9 +16,9 @@ use Rattle.script_grammar.specs.Statements.{begins_remark, remark_at, remarks_at
 use Rattle.script_grammar.specs.Places.{Placed}
 use Rattle.script_grammar.specs.Spots.{just, Behind, BeforeRemark, of_remark}
 use Rattle.script_grammar.proofs.Steps.{ok_is, bind_err, chosen, err_is, never, word_is, text_is, second_so}
-use Rattle.script_grammar.proofs.FoundRemarks.{remark_found}
+use Rattle.script_grammar.proofs.ReadRemarksStand.{remark_found}
 use Rattle.script_grammar.proofs.TreeTokens.{AreTokens-remark}
-use Rattle.script_grammar.proofs.LocalRing.{remarks_loop, remark_some, remark_last}
+use Rattle.script_grammar.proofs.RingByTokens.{remarks_loop, remark_some, remark_last}
 use Rattle.script_grammar.proofs.LoopEnds.{LoopEnds, loop_ends}
 use Rattle.script_grammar.proofs.CauseSteps.{not_both, Leads, Leads-then, Caused, refused_here, tokens_less, behind_on, behind_first, mark_or, word_or}
 

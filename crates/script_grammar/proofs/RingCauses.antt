@@ -24,11 +24,11 @@ use Rattle.script_grammar.specs.Causes.{is_name, is_letter_token}
 use Rattle.script_grammar.proofs.Places.{next_placed, behind_mark}
 use Rattle.script_grammar.proofs.Steps.{ok_is, bind_err, chosen, err_is, never, mark_is}
 use Rattle.script_grammar.proofs.Variables.{variables_more}
-use Rattle.script_grammar.proofs.FoundSteps.{ring_name_step, prime_step, variable_step}
-use Rattle.script_grammar.proofs.FoundRing.{letters_found}
-use Rattle.script_grammar.proofs.OnlySteps.{from_table}
+use Rattle.script_grammar.proofs.StepsBehindRead.{ring_name_step, prime_step, variable_step}
+use Rattle.script_grammar.proofs.ReadRingIsValid.{letters_found}
+use Rattle.script_grammar.proofs.StepsAreRead.{from_table}
 use Rattle.script_grammar.proofs.TreeTokens.{AreTokens-variables}
-use Rattle.script_grammar.proofs.LocalRing.{letters_loop, more_letters, last_letter}
+use Rattle.script_grammar.proofs.RingByTokens.{letters_loop, more_letters, last_letter}
 use Rattle.script_grammar.proofs.LoopEnds.{LoopEnds, loop_ends}
 use Rattle.script_grammar.proofs.CauseSteps.{not_both, Leads, Leads-then, Caused, refused_here, number_is, numeral_refused, behind_on, mark_or, word_or}
 use Rattle.script_grammar.proofs.RemarkCauses.{nothing}

@@ -15,18 +15,18 @@ use Rattle.script_grammar.specs.Trees.{Remark, remark_tokens, Ring, ring_tokens,
 use Rattle.script_grammar.specs.Steps.{◌>>=◌}
 use Rattle.script_grammar.specs.Expressions.{Declarations}
 use Rattle.script_grammar.specs.Statements.{begins_remark, letters_of, remarks_at}
-use Rattle.script_grammar.specs.Script.{begins_later}
+use Rattle.script_grammar.specs.Script.{begins_later, ring_part, noether_part}
 use Rattle.script_grammar.specs.Valid.{Stand, ValidRing, ValidNoether, first_known}
 use Rattle.script_grammar.specs.Places.{Placed}
 use Rattle.script_grammar.specs.Spots.{the_ring, the_noether, BeforeNoether}
 use Rattle.script_grammar.proofs.Places.{stand_placed}
 use Rattle.script_grammar.proofs.Steps.{bind_err, chosen, never, word_is}
-use Rattle.script_grammar.proofs.FoundRing.{ring_found}
-use Rattle.script_grammar.proofs.FoundNoether.{noether_found}
-use Rattle.script_grammar.proofs.OnlySteps.{from_table}
+use Rattle.script_grammar.proofs.ReadRingIsValid.{ring_found}
+use Rattle.script_grammar.proofs.ReadNoetherIsValid.{noether_found}
+use Rattle.script_grammar.proofs.StepsAreRead.{from_table}
 use Rattle.script_grammar.proofs.TreeTokens.{AreTokens-ring, AreTokens-noether}
-use Rattle.script_grammar.proofs.LocalRing.{any_more}
-use Rattle.script_grammar.proofs.LocalScript.{statements_read, start, finished, ring_part, noether_part, tree_read}
+use Rattle.script_grammar.proofs.RingByTokens.{any_more}
+use Rattle.script_grammar.proofs.ScriptByTokens.{statements_read, start, finished, tree_read}
 use Rattle.script_grammar.proofs.CauseSteps.{Leads, Leads-then, Caused, refused_here, behind_first}
 use Rattle.script_grammar.proofs.RemarkCauses.{nothing, remarks_caused, remarks_kept}
 use Rattle.script_grammar.proofs.RingCauses.{ring_caused}

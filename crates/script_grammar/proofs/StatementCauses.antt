@@ -24,9 +24,9 @@ use Rattle.script_grammar.specs.Spots.{a_statement, Behind, BeforeStatement, Bef
 use Rattle.script_grammar.specs.Causes.{IsCause}
 use Rattle.script_grammar.proofs.Steps.{bind_err, chosen, err_is, never, word_is}
 use Rattle.script_grammar.proofs.WordKinds.{command_of_is}
-use Rattle.script_grammar.proofs.FoundStatements.{statement_found, commands_fit}
+use Rattle.script_grammar.proofs.ReadStatementsAreValid.{statement_found, commands_fit}
 use Rattle.script_grammar.proofs.TreeTokens.{AreTokens-statement}
-use Rattle.script_grammar.proofs.LocalScript.{Progress, advanced, stopped, statement_item, read_more, statements_read, statements_loop, prime_kept, statement_some}
+use Rattle.script_grammar.proofs.ScriptByTokens.{Progress, advanced, stopped, statement_item, read_more, statements_read, statements_loop, prime_kept, statement_some}
 use Rattle.script_grammar.proofs.LoopEnds.{LoopEnds, loop_ends}
 use Rattle.script_grammar.proofs.CauseSteps.{Leads, Leads-then, Caused, refused_with, tokens_less, behind_on, behind_first, mark_or}
 use Rattle.script_grammar.proofs.NameCauses.{argument_or, closed_or}
@@ -37,6 +37,7 @@ use Rattle.script_grammar.proofs.RemarkCauses.{remark_caused}
 abbrev command_end : Word → List ℕ × Place → Result (Statement × Place) Refusal
 command_end w name = mark_at 59 whats.Semicolon name.1 >>= λ last. Ok (command w name.0, last)
 
+-- the end of a command on an ideal in std( )
 abbrev std_end : Word → List ℕ × Place → Result (Statement × Place) Refusal
 std_end w name = mark_at 41 whats.Close name.1 >>= λ closed. mark_at 59 whats.Semicolon closed >>= λ last. Ok (command_std w name.0, last)
 

@@ -13,16 +13,20 @@ use Rattle.script_grammar.specs.Valid.{Stand}
 abbrev pub refusal : Place → ReadKind → Refusal
 refusal t kind = record { left = t.left; kind = kind_at t.token kind }
 
+-- what was read
 abbrev done : {A : Type 0} → A → Result A Refusal
 done x = Ok x
 
+-- What is read is one thing.
 pub ok_is : {A : Type 0} (x y : A) → done x ≡ done y → x ≡ y
 ok_is x y e = cc
 
+-- Where two steps read something, the first one did, and the second one behind it.
 pub bind_ok : {A B : Type 0} (r : Result A Refusal) (f : A → Result B Refusal) (y : B) → (r >>= f) ≡ Ok y → (x : A) × (r ≡ Ok x) × (f x ≡ Ok y)
 bind_ok (Ok x) f y e = (x, refl, e)
 bind_ok (Err d) f y e = absurd cc
 
+-- A test went one of two ways.
 pub chosen : {A : Type 0} (b : Bool) (x y z : A) → cond b x y ≡ z → ((b ≡ true) × (x ≡ z)) ⊎ ((b ≡ false) × (y ≡ z))
 chosen true x y z e = inl (refl, e)
 chosen false x y z e = inr (refl, e)
@@ -42,12 +46,15 @@ pub bind_err : {A B : Type 0} (r : Result A Refusal) (f : A → Result B Refusal
 bind_err (Ok x) f d e = inr (x, refl, e)
 bind_err (Err g) f d e = inl cc
 
+-- a refusal
 abbrev failed : {A : Type 0} → Refusal → Result A Refusal
 failed f = Err f
 
+-- What is refused is refused for one reason.
 pub err_is : {A : Type 0} (f g : Refusal) → failed {A = A} f ≡ failed g → f ≡ g
 err_is f g e = cc
 
+-- Nothing is both read and refused.
 pub never : {A : Type 0} (x : A) (f : Refusal) → done x ≡ Err f → ⊥
 never x f e = cc
 
@@ -55,6 +62,7 @@ never x f e = cc
 pub second_so : (p q : Bool) → (p || q) ≡ true → p ≡ false → q ≡ true
 second_so p q h e = sym (ap (λ (b : Bool). b || q) e) ∙ h
 
+-- A token that passes the test of a mark is that mark.
 pub mark_is : (m : ℕ) (token : Token) → is_the_mark m token ≡ true → token ≡ mark m
 mark_is m (mark n) h = ap (λ k. mark k) (eqb-true n m h)
 mark_is m (word w) h = absurd cc
@@ -63,6 +71,7 @@ mark_is m bad h = absurd cc
 mark_is m end h = absurd cc
 mark_is m cut h = absurd cc
 
+-- Words that are tested to be the same are the same.
 pub same_is : (a b : List ℕ) → is_same a b ≡ true → a ≡ b
 same_is [] [] h = refl
 same_is [] (y ∷ b) h = absurd cc
@@ -71,10 +80,12 @@ same_is (x ∷ a) (y ∷ b) h =
     let p = and_parts (eqb x y) (is_same a b) h in
     ap (λ (k : ℕ). k ∷ a) (eqb-true x y p.0) ∙ ap (λ (l : List ℕ). y ∷ l) (same_is a b p.1)
 
+-- A word is the same as itself.
 pub same_refl : (w : List ℕ) → is_same w w ≡ true
 same_refl [] = refl
 same_refl (b ∷ w) = and_from (eqb b b) (is_same w w) (eq-eqb b b refl) (same_refl w)
 
+-- A token that passes the test of a word is that word.
 pub word_is : (w : List ℕ) (i : Token) → is_the_word w i ≡ true → i ≡ word w
 word_is w (word v) h = ap (λ (l : List ℕ). word l) (sym (same_is w v h))
 word_is w (text v) h = absurd cc
@@ -83,6 +94,7 @@ word_is w bad h = absurd cc
 word_is w end h = absurd cc
 word_is w cut h = absurd cc
 
+-- A token that passes the test of a string is that string.
 pub text_is : (w : List ℕ) (i : Token) → is_the_text w i ≡ true → i ≡ text w
 text_is w (text v) h = ap (λ (l : List ℕ). text l) (sym (same_is w v h))
 text_is w (word v) h = absurd cc
@@ -91,6 +103,7 @@ text_is w bad h = absurd cc
 text_is w end h = absurd cc
 text_is w cut h = absurd cc
 
+-- A token that is a word is the word that it is.
 pub some_word_is : (i : Token) → is_word i ≡ true → i ≡ word (word_of i)
 some_word_is (word v) h = refl
 some_word_is (text v) h = absurd cc
@@ -99,6 +112,7 @@ some_word_is bad h = absurd cc
 some_word_is end h = absurd cc
 some_word_is cut h = absurd cc
 
+-- A token that passes the test of the end is the end.
 pub end_is : (i : Token) → is_the_end i ≡ true → i ≡ end
 end_is (word v) h = absurd cc
 end_is (text v) h = absurd cc

@@ -15,8 +15,8 @@ use Rattle.script_grammar.specs.Places.{Placed}
 use Rattle.script_grammar.specs.Spots.{an_operand, the_divisor, an_exponent, behind_power, last_in_sum, marks, needs_operand, ends_power, SpotInSum}
 use Rattle.script_grammar.proofs.Places.{next_placed, stand_placed, behind_mark}
 use Rattle.script_grammar.proofs.Steps.{ok_is, bind_ok, bind_err, chosen, err_is, never, second_so, mark_is, some_word_is}
-use Rattle.script_grammar.proofs.FoundExpressions.{InnerIs, operand_found, power_found, term_found, inner_found}
-use Rattle.script_grammar.proofs.LocalExpressions.{joins, star_power, times_loop, joined, more_loop}
+use Rattle.script_grammar.proofs.ReadExpressionsAreValid.{InnerIs, operand_found, power_found, term_found, inner_found}
+use Rattle.script_grammar.proofs.ExpressionsByTokens.{joins, star_power, times_loop, joined, more_loop}
 use Rattle.script_grammar.proofs.LoopEnds.{LoopEnds, loop_ends}
 use Rattle.script_grammar.proofs.SumTokens.{last-append, last-one, marks-append, EndsPower, power_ends}
 use Rattle.script_grammar.proofs.TreeTokens.{AreTokens-operand, AreTokens-power}

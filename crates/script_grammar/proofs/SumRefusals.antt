@@ -9,8 +9,8 @@ use Rattle.script_grammar.specs.Places.{Placed}
 use Rattle.script_grammar.specs.First.{IsLate}
 use Rattle.script_grammar.specs.Spots.{Spot, the_ring, the_noether, a_statement, just, the_ring_name, the_characteristic, a_variable, behind_variable, a_factor, behind_monomial, a_new_name, a_name_of, an_operand, the_divisor, an_exponent, behind_power, behind_jacobian, no_room, BeforeSum, BeginsSum, SpotInSum, Here}
 use Rattle.script_grammar.specs.Causes.{HasCauseInSum}
-use Rattle.script_grammar.proofs.Local.{Any, Local}
-use Rattle.script_grammar.proofs.LocalExpressions.{SpellsSum, expression_local}
+use Rattle.script_grammar.proofs.ByTokens.{Any, Local}
+use Rattle.script_grammar.proofs.ExpressionsByTokens.{SpellsSum, expression_local}
 use Rattle.script_grammar.proofs.TreeTokens.{AreTokens, AreTokens-front, AreTokens-sum}
 use Rattle.script_grammar.proofs.CauseSteps.{Leads, Leads-then, Caused, cause_of}
 use Rattle.script_grammar.proofs.SumCauses.{expression_caused}

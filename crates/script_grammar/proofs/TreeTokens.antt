@@ -5,7 +5,7 @@ use Rattle.std.specs.List.{flat_map}
 use Rattle.script_grammar.specs.Tokens.{Token, word, text, mark, bad, end, cut}
 use Rattle.script_grammar.specs.Trees.{Operand, number, fraction, named, inside, operand_tokens, Power, plain, raised, power_tokens, Term, single, times, term_tokens, Sum, bare, positive, negative, plus, minus, sum_tokens, Remark, option, library, remark_tokens, Variables, alone, listed, variables_tokens, Ring, ring_tokens, Factor, short_word, raised_letter, factor_tokens, Monomial, factor, product, monomial_tokens, noether_tokens, Member, generator, jacobian, member_tokens, Members, only, more, members_tokens, Statement, remark, poly, again, ideal, command, command_std, statement_tokens, Tree, tree_tokens, one}
 use Rattle.script_grammar.specs.Places.{is_last, IsToken}
-use Rattle.script_grammar.proofs.FoundRing.{more_letter}
+use Rattle.script_grammar.proofs.ReadRingIsValid.{more_letter}
 
 abbrev pub AreTokens : List Token → Type 0
 AreTokens [] = Unit {0}

@@ -88,10 +88,14 @@ unfoldable mutual
   sum_value v (minus x y) = canonical v.p (sum_value v x ++ opposite v.p (term_value v y))
 
 -- ---- ideals
--- the generators that a member stands for: an expression, or the derivatives of a polynomial in the order of the variables
+-- the derivatives of f, in the order of the variables
+abbrev pub derivatives : Values → Poly → List Poly
+derivatives v f = map (λ i. cut v.d (canonical v.p (derivative i f))) (range_with_len 0 (variable_count v))
+
+-- the generators that a member stands for: an expression, or the derivatives of a polynomial
 abbrev pub member_value : Values → Member → List Poly
 member_value v (generator s) = cut v.d (sum_value v s) ∷ []
-member_value v (jacobian f) = map (λ i. cut v.d (canonical v.p (derivative i (value_in v.polys [] f)))) (range_with_len 0 (variable_count v))
+member_value v (jacobian f) = derivatives v (value_in v.polys [] f)
 
 abbrev pub members_value : Values → Members → List Poly
 members_value v (only m) = member_value v m

@@ -8,7 +8,7 @@ use Rattle.script_grammar.specs.declared.script.Word.{Word}
 use Rattle.script_grammar.specs.declared.script.Word.TheVariants.{Std, Vdim, Kbase, HighCorner, Milnor, Tjurina}
 use Rattle.script_grammar.specs.Tokens.{Token, Place, next}
 use Rattle.script_grammar.specs.Words.{is_same, is_word, word_of, is_the_word, is_the_end}
-use Rattle.script_grammar.specs.Trees.{Statement, remark, poly, again, ideal, command, command_std, Tree, command_word}
+use Rattle.script_grammar.specs.Trees.{Ring, Monomial, Statement, remark, poly, again, ideal, command, command_std, Tree, command_word}
 use Rattle.script_grammar.specs.Steps.{◌>>=◌, refused, wanted}
 use Rattle.script_grammar.specs.Expressions.{Declarations}
 use Rattle.script_grammar.specs.Statements.{begins_remark, remark_at, remarks_at, ring_at, letters_of, noether_at, poly_at, ideal_at, command_at}
@@ -65,14 +65,22 @@ statements_at (suc n) known count done t =
     if nat_le 1 count && is_the_end t.token then Ok done
     else (statement_at known count t >>= λ s. statements_at n (after known s.0) (count + commands_in s.0) (done ++ s.0 ∷ []) s.1)
 
+-- the ring statement with its word, and the noether statement with its own
+abbrev pub ring_part : Place → Result (Ring × Place) Refusal
+ring_part t = if is_the_word (codes "ring") t.token then ring_at (next t.rest) else wanted t whats.Ring
+
+abbrev pub noether_part : List ℕ → Place → Result (Monomial × Place) Refusal
+noether_part letters t =
+    if is_the_word (codes "noether") t.token then noether_at letters (next t.rest)
+    else (if begins_later t.token then refused t MissingNoether else wanted t whats.Noether)
+
 unfoldable pub tree_at : Place → Result Tree Refusal
 tree_at t = do
   before ← remarks_at t.left [] t
-  ring ← (let here = before.1 in if is_the_word (codes "ring") here.token then ring_at (next here.rest) else wanted here whats.Ring)
+  ring ← ring_part before.1
   between ← remarks_at ring.1.left [] ring.1
   let letters = letters_of ring.0.variables
-  noether ← (let here = between.1 in if is_the_word (codes "noether") here.token then noether_at letters (next here.rest)
-      else (if begins_later here.token then refused here MissingNoether else wanted here whats.Noether))
+  noether ← noether_part letters between.1
   statements ← statements_at (suc noether.1.left) (record { ring = ring.0.name; prime = value_of ring.0.prime; letters = letters; polys = []; ideals = [] }) 0 [] noether.1
   Ok (record { before = before.0; ring = ring.0; between = between.0; noether = noether.0; statements = statements })
 

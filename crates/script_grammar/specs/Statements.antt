@@ -5,6 +5,7 @@ use Rattle.prime_field.specs.Decimal.{value_of}
 use Rattle.prime_field.specs.Prime.{table}
 use Rattle.local_order.specs.Count.{monomial_count}
 use Rattle.script_grammar.specs.declared.refusal.What.TheVariants as whats
+use Rattle.script_grammar.specs.declared.refusal.ReadKind.{ReadKind}
 use Rattle.script_grammar.specs.declared.refusal.ReadKind.TheVariants.{NotAPrime, TooManyVariables, NameClash, TooManyNames, UnknownName, ExponentTooLarge, NoetherDegree, TooManyMonomials, TooManyGenerators}
 use Rattle.script_grammar.specs.declared.refusal.Refusal.{Refusal}
 use Rattle.script_grammar.specs.declared.script.Word.{Word}
@@ -20,6 +21,10 @@ use Rattle.script_grammar.specs.Expressions.{Declarations, expression_at}
 abbrev pub begins_remark : Token → Bool
 begins_remark token = is_the_word (codes "option") token || is_the_word (codes "LIB") token
 
+-- the string "sing.lib"
+abbrev pub library_at : Place → Result Place Refusal
+library_at t = if is_the_text (codes "sing.lib") t.token then Ok (next t.rest) else wanted t whats.Library
+
 unfoldable pub remark_at : Place → Result (Remark × Place) Refusal
 remark_at t =
     if is_the_word (codes "option") t.token then (do
@@ -29,7 +34,7 @@ remark_at t =
       after ← mark_at 59 whats.Semicolon closed
       Ok (option, after))
     else (do
-      named ← (let name = next t.rest in if is_the_text (codes "sing.lib") name.token then Ok (next name.rest) else wanted name whats.Library)
+      named ← library_at (next t.rest)
       after ← mark_at 59 whats.Semicolon named
       Ok (library, after))
 
@@ -124,6 +129,12 @@ factors_at (suc n) letters m t =
     if is_the_mark 42 t.token then (factor_at letters (next t.rest) >>= λ f. factors_at n letters (product m f.0) f.1)
     else Ok (m, t)
 
+-- a monomial from its first factor on
+abbrev pub monomial_at : List ℕ → Place → Result (Monomial × Place) Refusal
+monomial_at letters t = do
+  first ← factor_at letters t
+  factors_at first.1.left letters (factor first.0) first.1
+
 abbrev pub factor_degree : Factor → ℕ
 factor_degree (short_word w) = word_degree w
 factor_degree (raised_letter w digits) = value_of digits
@@ -136,8 +147,7 @@ degree_of (product m f) = degree_of m + factor_degree f
 unfoldable pub noether_at : List ℕ → Place → Result (Monomial × Place) Refusal
 noether_at letters t = do
   start ← mark_at 61 whats.Equals t
-  first ← factor_at letters start
-  m ← factors_at first.1.left letters (factor first.0) first.1
+  m ← monomial_at letters start
   let d = degree_of m.0
   let n = monomial_count (length letters) d
   if d == 0 || nat_lt 255 d then refused start NoetherDegree
@@ -182,17 +192,20 @@ poly_at known t = do
   after ← mark_at 59 whats.Operator sum.1
   Ok (poly name.0 sum.0, after)
 
+-- Why a word is refused where an ideal has no room for a member: for what it is itself refused for, or for that.
+abbrev pub no_room_kind : Declarations → List ℕ → ReadKind
+no_room_kind known w =
+    if is_numeral w then TooManyGenerators
+    else (if is_one_of keywords w then UnknownName
+    else (if is_one_of known.polys w then TooManyGenerators
+    else (if not (is_short known.letters w) then UnknownName
+    else (if has_large w then ExponentTooLarge
+    else TooManyGenerators))))
+
 -- The member that brings the ideal above 64 generators is refused at its first token, unless that token itself is.
 abbrev pub no_room : {A : Type 0} → Declarations → Place → Result A Refusal
 no_room known t =
-    let w = word_of t.token in
-    if is_word t.token then
-    (if is_numeral w then refused t TooManyGenerators
-    else (if is_one_of keywords w then refused t UnknownName
-    else (if is_one_of known.polys w then refused t TooManyGenerators
-    else (if not (is_short known.letters w) then refused t UnknownName
-    else (if has_large w then refused t ExponentTooLarge
-    else refused t TooManyGenerators)))))
+    if is_word t.token then refused t (no_room_kind known (word_of t.token))
     else (if is_the_mark 40 t.token || (is_the_mark 43 t.token || is_the_mark 45 t.token) then refused t TooManyGenerators
     else wanted t whats.Operand)
 
@@ -223,6 +236,12 @@ members_at (suc n) known ms t =
     else (if is_the_mark 59 t.token then Ok (ms, next t.rest)
     else wanted t whats.Operator)
 
+-- members from the first one on
+abbrev pub members_from : Declarations → Place → Result (Members × Place) Refusal
+members_from known t = do
+  first ← member_at known 0 t
+  members_at (suc first.1.left) known (only first.0) first.1
+
 unfoldable pub ideal_at : Declarations → Place → Result (Statement × Place) Refusal
 ideal_at known t = do
   name ← new_name_at known t
@@ -232,8 +251,7 @@ ideal_at known t = do
     after ← mark_at 59 whats.Semicolon other.1
     Ok (again name.0 other.0, after))
       else (do
-        first ← member_at known 0 start
-        members ← members_at (suc first.1.left) known (only first.0) first.1
+        members ← members_from known start
         Ok (ideal name.0 members.0, members.1))
 
 -- ---- commands, from behind the word on

@@ -1,5 +1,5 @@
-use Rattle.script_grammar.proofs.FoundScript.{script_found}
-use Rattle.script_grammar.proofs.OnlyScript.{script_again}
+use Rattle.script_grammar.proofs.ReadScriptIsValid.{script_found}
+use Rattle.script_grammar.proofs.ValidScriptIsRead.{script_again}
 use Rattle.script_grammar.proofs.laws.both_ways.Goals as goal
 
 pub returns-clause-found : goal.returns-clause-found

@@ -1,6 +1,6 @@
 use Rattle.script_grammar.proofs.Places.{next_placed}
-use Rattle.script_grammar.proofs.FoundExpressions.{expression_found}
-use Rattle.script_grammar.proofs.OnlyExpressions.{expression_again}
+use Rattle.script_grammar.proofs.ReadExpressionsAreValid.{expression_found}
+use Rattle.script_grammar.proofs.ValidExpressionsAreRead.{expression_again}
 use Rattle.script_grammar.proofs.laws.both_ways_of_expressions.Goals as goal
 
 pub returns-clause-placed : goal.returns-clause-placed

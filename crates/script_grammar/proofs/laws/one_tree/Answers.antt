@@ -1,4 +1,4 @@
-use Rattle.script_grammar.proofs.OnlyScript.{script_once}
+use Rattle.script_grammar.proofs.ValidScriptIsRead.{script_once}
 use Rattle.script_grammar.proofs.laws.one_tree.Goals as goal
 
 pub returns : goal.returns

@@ -9,8 +9,9 @@ use Rattle.script_grammar.specs.Valid.{Stand}
 use Rattle.script_grammar.specs.First.{refusal_at}
 use Rattle.script_grammar.specs.Places.{Placed}
 use Rattle.script_grammar.proofs.Steps.{ok_is, err_is, bind_ok}
-use Rattle.script_grammar.proofs.Local.{Reader, ReadsSo, RefusesSo, Local, refuses_by, same_head}
+use Rattle.script_grammar.proofs.ByTokens.{Reader, ReadsSo, RefusesSo, Local, refuses_by, same_head}
 
+-- what was read, unless a test refuses it at its first token
 abbrev pub tested : {A : Type 0} → Place → A × Place → Option ReadKind → Result (A × Place) Refusal
 tested t x None = Ok x
 tested t x (Some kind) = refused t kind
@@ -20,10 +21,12 @@ abbrev pub LateAt : (ReadKind → List Token → Type 0) → List Token → Read
 LateAt P [] kind = ⊥
 LateAt P (i ∷ tokens) kind = P (kind_at i kind) (i ∷ tokens)
 
+-- What holds of a refusal at the first token holds at the place where the tokens stand.
 late_at : (P : ReadKind → List Token → Type 0) (t : Place) (tokens : List Token) (u : Place) (kind : ReadKind) → Stand t tokens u → LateAt P tokens kind → P (kind_at t.token kind) tokens
 late_at P t [] u kind st h = absurd h
 late_at P t (i ∷ tokens) u kind st h = subst (λ (j : Token). P (kind_at j kind) (i ∷ tokens)) (sym st.0) h
 
+-- What passes a late test is read by the same tokens.
 tested_reads : {P : ReadKind → List Token → Type 0} {A : Type 0} (n : ℕ) (W : Token → Type 0) (R : Reader A) (N : A → List Token → Type 0) (test : A → Option ReadKind) → Local P A n W R N
     → (t : Place) (a x : A) (m u : Place) → t.left < n → Placed t → W t.token → R t ≡ Ok (a, m) → (o : Option ReadKind) → test a ≡ o → tested t (a, m) o ≡ Ok (x, u)
     → ReadsSo A (λ s. R s >>= λ y. tested s y (test y.0)) N t x u
@@ -42,6 +45,7 @@ tested_reads {P} {A} n W R N test law t a x m u le placed w was None is e =
           ∙ ap (λ (o : Option ReadKind). tested s (a, v) o) is ∙ ap (λ (b : A). Ok (b, v)) here;
     }
 
+-- What fails a late test is refused at its first token, by the tokens up to its end.
 tested_refuses : {P : ReadKind → List Token → Type 0} {A : Type 0} (n : ℕ) (W : Token → Type 0) (R : Reader A) (N : A → List Token → Type 0) (test : A → Option ReadKind)
     → Local P A n W R N → ((x : A) (tokens : List Token) (kind : ReadKind) → N x tokens → test x ≡ Some kind → LateAt P tokens kind)
     → (t : Place) (a : A) (m : Place) (f : Refusal) → t.left < n → Placed t → W t.token → R t ≡ Ok (a, m) → (o : Option ReadKind) → test a ≡ o → tested t (a, m) o ≡ Err f
@@ -68,6 +72,7 @@ tested_refuses {P} {A} n W R N test law late t a m f le placed w was (Some kind)
           ∙ ap (λ (i : Token). Err (refusal_at p (kind_at i kind))) (same_head t p r.tokens m v r.stand q h);
     }
 
+-- A reader with a late test refuses where the reader does, or where the test does.
 late_refuses : {P : ReadKind → List Token → Type 0} {A : Type 0} (n : ℕ) (W : Token → Type 0) (R : Reader A) (N : A → List Token → Type 0) (test : A → Option ReadKind)
     → Local P A n W R N → ((x : A) (tokens : List Token) (kind : ReadKind) → N x tokens → test x ≡ Some kind → LateAt P tokens kind)
     → (t : Place) (f : Refusal) → t.left < n → Placed t → W t.token → (r : Result (A × Place) Refusal) → R t ≡ r → (r >>= λ y. tested t y (test y.0)) ≡ Err f

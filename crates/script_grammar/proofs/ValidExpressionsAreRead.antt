@@ -16,8 +16,9 @@ use Rattle.script_grammar.specs.Places.{Placed, EndsSum}
 use Rattle.script_grammar.proofs.Steps.{refusal, Stand-split}
 use Rattle.script_grammar.proofs.Places.{next_placed, stand_placed, behind_mark}
 use Rattle.script_grammar.proofs.WordKinds.{numeral_no_keyword}
-use Rattle.script_grammar.proofs.OnlyTokens.{not_mark, is_mark_so, mark_again, numeral_again, exponent_again}
+use Rattle.script_grammar.proofs.TokensAreRead.{not_mark, is_mark_so, mark_again, numeral_again, exponent_again}
 
+-- A numeral that isn't zero modulo the characteristic is read below /.
 below_again : (known : Declarations) (digits below : List ℕ) (t u : Place) → t.token ≡ word below → is_numeral below ≡ true → (value_of below % known.prime ≡ 0 → ⊥) → next t.rest ≡ u → below_at known digits t ≡ Ok (fraction digits below, u)
 unfolding below_at
 below_again known digits below t u here numeral some behind =
@@ -25,6 +26,7 @@ below_again known digits below t u here numeral some behind =
     ap (λ (r : Result (List ℕ × Place) Refusal). r >>= f) (numeral_again t below u here numeral behind)
     ∙ ap (λ (b : Bool). cond {A = Result (Operand × Place) Refusal} b (Err (refusal t ZeroDivisor)) (Ok (fraction digits below, u))) (ne_eqb (value_of below % known.prime) 0 some)
 
+-- A word is read as a word, and not as what is in parentheses.
 word_item : (inner : Place → Result (Sum × Place) Refusal) (known : Declarations) (t : Place) (w : List ℕ) → t.token ≡ word w → operand_at inner known t ≡ word_operand_at known w t
 unfolding operand_at
 word_item inner known t w here =
@@ -43,6 +45,7 @@ name_parts false false false true true h = absurd cc
 name_parts false false false true false h = (refl, refl, inr (refl, refl, refl))
 name_parts false false false false e h = absurd cc
 
+-- A word that an operand may be is read as it.
 name_again : (known : Declarations) (t : Place) (w : List ℕ) → is_operand_word known w ≡ true → word_operand_at known w t ≡ Ok (named w, next t.rest)
 unfolding word_operand_at
 name_again known t w h =
@@ -52,18 +55,22 @@ name_again known t w h =
       | inr strange ↦ rw (p.1, p.0, strange.0, strange.1, strange.2) refl
     ]
 
+-- A numeral without / behind it is read alone.
 fraction_plain : (known : Declarations) (digits : List ℕ) (u : Place) → is_the_mark 47 u.token ≡ false → fraction_at known digits u ≡ Ok (number digits, u)
 unfolding fraction_at
 fraction_plain known digits u quiet = rw quiet refl
 
+-- Behind a numeral with / what is below is read.
 fraction_slash : (known : Declarations) (digits : List ℕ) (t : Place) → t.token ≡ mark 47 → fraction_at known digits t ≡ below_at known digits (next t.rest)
 unfolding fraction_at
 fraction_slash known digits t here = rw (is_mark_so 47 t here refl) refl
 
+-- A numeral is read as one, since it is no keyword.
 word_numeral : (known : Declarations) (t : Place) (w : List ℕ) → is_numeral w ≡ true → word_operand_at known w t ≡ fraction_at known w (next t.rest)
 unfolding word_operand_at
 word_numeral known t w h = rw (numeral_no_keyword w h, h) refl
 
+-- An operand that begins with ( is read in parentheses.
 paren_item : (inner : Place → Result (Sum × Place) Refusal) (known : Declarations) (t : Place) → t.token ≡ mark 40 → operand_at inner known t ≡ (inner t >>= λ s. Ok (inside s.0, s.1))
 unfolding operand_at
 paren_item inner known t here =
@@ -71,6 +78,7 @@ paren_item inner known t here =
     let opens : is_the_mark 40 t.token ≡ true = ap (is_the_mark 40) here in
     rw (no_word, opens) refl
 
+-- A valid operand that stands there is read.
 operand_again : (inner : Place → Result (Sum × Place) Refusal) (known : Declarations) (deep : ℕ) (t : Place) (o : Operand) (u : Place) → InnerAgain inner known deep → Placed t
     → Stand t (operand_tokens o) u → ValidOperand known deep o → is_the_mark 47 u.token ≡ false → operand_at inner known t ≡ Ok (o, u)
 unfolding operand_tokens InnerAgain
@@ -84,19 +92,24 @@ operand_again inner known deep t (inside s) u law short p valid quiet =
     let f : Sum × Place → Result (Operand × Place) Refusal = λ x. Ok (inside x.0, x.1) in
     paren_item inner known t p.0 ∙ ap (λ (r : Result (Sum × Place) Refusal). r >>= f) (law t s u short p valid)
 
+-- a power with the exponent that is read
 abbrev raise : Operand × Place → List ℕ × Place → Result (Power × Place) Refusal
 raise o n = Ok (raised o.0 n.0, n.1)
 
+-- what is read behind an operand: its exponent, or nothing
 abbrev powered : Declarations → Operand × Place → Result (Power × Place) Refusal
 powered known o = cond (takes_exponent known o.0 && is_the_mark 94 o.1.token) (exponent_at (next o.1.rest) >>= raise o) (Ok (plain o.0, o.1))
 
+-- A power is read from its operand on.
 power_from : (inner : Place → Result (Sum × Place) Refusal) (known : Declarations) (t : Place) (o : Operand × Place) → operand_at inner known t ≡ Ok o → power_at inner known t ≡ powered known o
 unfolding power_at
 power_from inner known t o e = ap (λ (r : Result (Operand × Place) Refusal). r >>= powered known) e
 
+-- Whether an exponent is read is told by the operand and the ^ behind it.
 powered_is : (known : Declarations) (o : Operand × Place) (b : Bool) → (takes_exponent known o.0 && is_the_mark 94 o.1.token) ≡ b → powered known o ≡ cond b (exponent_at (next o.1.rest) >>= raise o) (Ok (plain o.0, o.1))
 powered_is known o b e = ap (λ (c : Bool). cond {A = Result (Power × Place) Refusal} c (exponent_at (next o.1.rest) >>= raise o) (Ok (plain o.0, o.1))) e
 
+-- A valid power that stands there is read, if no ^ goes on with it.
 power_again : (inner : Place → Result (Sum × Place) Refusal) (known : Declarations) (deep : ℕ) (t : Place) (x : Power) (u : Place) → InnerAgain inner known deep → Placed t
     → Stand t (power_tokens x) u → ValidPower known deep x → is_the_mark 47 u.token ≡ false → is_the_mark 94 u.token ≡ false → power_at inner known t ≡ Ok (x, u)
 unfolding power_tokens
@@ -114,6 +127,7 @@ power_again inner known deep t (raised o digits) u law short p valid quiet calm 
 abbrev TermAt : (Place → Result (Sum × Place) Refusal) → Declarations → Place → Term → Place → Type 0
 TermAt inner known t x m = (n : ℕ) × (m.left ≤ n) × (term_at inner known t ≡ times_at inner known n x m)
 
+-- A loop over powers takes one more power behind a *.
 times_on : (inner : Place → Result (Sum × Place) Refusal) (known : Declarations) (whole : Result (Term × Place) Refusal) (n : ℕ) (y : Term) (z : Power) (k m : Place)
     → k.token ≡ mark 42 → k.left ≤ n → m.left < k.left → whole ≡ times_at inner known n y k → power_at inner known (next k.rest) ≡ Ok (z, m) → (l : ℕ) × (m.left ≤ l) × (whole ≡ times_at inner known l (times y z) m)
 unfolding times_at
@@ -123,12 +137,14 @@ times_on inner known whole (suc n) y z k m here room shorter so_far reads =
     let one_more : times_at inner known (suc n) y k ≡ times_at inner known n (times y z) m = rw (is_mark_so 42 k here refl) (ap (λ (r : Result (Power × Place) Refusal). r >>= f) reads) in
     (n, omega arith, so_far ∙ one_more)
 
+-- A power that is read begins a term.
 term_begins : (inner : Place → Result (Sum × Place) Refusal) (known : Declarations) (t : Place) (z : Power) (m : Place) → power_at inner known t ≡ Ok (z, m) → TermAt inner known t (single z) m
 unfolding term_at
 term_begins inner known t z m e =
     let f : Power × Place → Result (Term × Place) Refusal = λ x. times_at inner known x.1.left (single x.0) x.1 in
     (m.left, omega arith, ap (λ (r : Result (Power × Place) Refusal). r >>= f) e)
 
+-- A valid term that stands there is read up to its end and beyond, as a loop goes.
 term_goes : (inner : Place → Result (Sum × Place) Refusal) (known : Declarations) (deep : ℕ) (t : Place) (x : Term) (m : Place) → InnerAgain inner known deep → Placed t
     → Stand t (term_tokens x) m → ValidTerm known deep x → is_the_mark 47 m.token ≡ false → is_the_mark 94 m.token ≡ false → TermAt inner known t x m
 unfolding term_tokens
@@ -142,11 +158,13 @@ term_goes inner known deep t (times y z) m law placed p valid quiet calm =
     let before = term_goes inner known deep t y k law placed q.1 valid.0 (not_mark 47 42 k star.0 refl) (not_mark 94 42 k star.0 refl) in
     times_on inner known (term_at inner known t) before.0 y z k m star.0 before.1 less.0 before.2 (power_again inner known deep (next k.rest) z m law (next_placed k.rest) star.1 valid.1 quiet calm)
 
+-- A loop over powers ends where no * stands.
 times_end : (inner : Place → Result (Sum × Place) Refusal) (known : Declarations) (n : ℕ) (x : Term) (u : Place) → is_the_mark 42 u.token ≡ false → times_at inner known n x u ≡ Ok (x, u)
 unfolding times_at
 times_end inner known zero x u h = refl
 times_end inner known (suc n) x u h = rw h refl
 
+-- A valid term that stands there is read, if neither ^ nor * goes on with it.
 term_again : (inner : Place → Result (Sum × Place) Refusal) (known : Declarations) (deep : ℕ) (t : Place) (x : Term) (u : Place) → InnerAgain inner known deep → Placed t
     → Stand t (term_tokens x) u → ValidTerm known deep x → is_the_mark 47 u.token ≡ false → is_the_mark 94 u.token ≡ false → is_the_mark 42 u.token ≡ false → term_at inner known t ≡ Ok (x, u)
 term_again inner known deep t x u law placed p valid quiet calm dark =
@@ -161,11 +179,13 @@ operand_head t (fraction digits below) u m h p = ap (is_the_mark m) p.0
 operand_head t (named w) u m h p = ap (is_the_mark m) p.0
 operand_head t (inside s) u m h p = ap (is_the_mark m) p.0 ∙ h
 
+-- A power begins with no mark but (.
 power_head : (t : Place) (x : Power) (u : Place) (m : ℕ) → eqb 40 m ≡ false → Stand t (power_tokens x) u → is_the_mark m t.token ≡ false
 unfolding power_tokens
 power_head t (plain o) u m h p = operand_head t o u m h p
 power_head t (raised o digits) u m h p = let q = Stand-split t (operand_tokens o) (mark 94 ∷ one (word digits)) u p in operand_head t o q.0 m h q.1
 
+-- A term begins with no mark but (.
 term_head : (t : Place) (x : Term) (u : Place) (m : ℕ) → eqb 40 m ≡ false → Stand t (term_tokens x) u → is_the_mark m t.token ≡ false
 unfolding term_tokens
 term_head t (single z) u m h p = power_head t z u m h p
@@ -174,30 +194,35 @@ term_head t (times y z) u m h p = let q = Stand-split t (term_tokens y) (mark 42
 abbrev SumAt : (Place → Result (Sum × Place) Refusal) → Declarations → Place → Sum → Place → Type 0
 SumAt inner known t x m = (n : ℕ) × (m.left ≤ n) × (sum_at inner known t ≡ more_at inner known n x m)
 
+-- A first term that is read begins a sum.
 sum_begins : (inner : Place → Result (Sum × Place) Refusal) (known : Declarations) (t : Place) (x : Sum) (m : Place) → first_at inner known t ≡ Ok (x, m) → SumAt inner known t x m
 unfolding sum_at
 sum_begins inner known t x m e =
     let f : Sum × Place → Result (Sum × Place) Refusal = λ y. more_at inner known y.1.left y.0 y.1 in
     (m.left, omega arith, ap (λ (r : Result (Sum × Place) Refusal). r >>= f) e)
 
+-- A term without a sign is read as the first one.
 first_bare : (inner : Place → Result (Sum × Place) Refusal) (known : Declarations) (t : Place) (y : Term) (m : Place) → is_the_mark 43 t.token ≡ false → is_the_mark 45 t.token ≡ false → term_at inner known t ≡ Ok (y, m) → first_at inner known t ≡ Ok (bare y, m)
 unfolding first_at
 first_bare inner known t y m p q e =
     let f : Term × Place → Result (Sum × Place) Refusal = λ x. Ok (bare x.0, x.1) in
     rw (p, q) (ap (λ (r : Result (Term × Place) Refusal). r >>= f) e)
 
+-- A term behind + is read as the first one.
 first_up : (inner : Place → Result (Sum × Place) Refusal) (known : Declarations) (t : Place) (y : Term) (m : Place) → is_the_mark 43 t.token ≡ true → term_at inner known (next t.rest) ≡ Ok (y, m) → first_at inner known t ≡ Ok (positive y, m)
 unfolding first_at
 first_up inner known t y m p e =
     let f : Term × Place → Result (Sum × Place) Refusal = λ x. Ok (positive x.0, x.1) in
     rw p (ap (λ (r : Result (Term × Place) Refusal). r >>= f) e)
 
+-- A term behind - is read as the first one.
 first_down : (inner : Place → Result (Sum × Place) Refusal) (known : Declarations) (t : Place) (y : Term) (m : Place) → is_the_mark 43 t.token ≡ false → is_the_mark 45 t.token ≡ true → term_at inner known (next t.rest) ≡ Ok (y, m) → first_at inner known t ≡ Ok (negative y, m)
 unfolding first_at
 first_down inner known t y m q p e =
     let f : Term × Place → Result (Sum × Place) Refusal = λ x. Ok (negative x.0, x.1) in
     rw (q, p) (ap (λ (r : Result (Term × Place) Refusal). r >>= f) e)
 
+-- A loop over terms takes one more term behind a +.
 plus_on : (inner : Place → Result (Sum × Place) Refusal) (known : Declarations) (whole : Result (Sum × Place) Refusal) (n : ℕ) (y : Sum) (z : Term) (k m : Place)
     → k.token ≡ mark 43 → k.left ≤ n → m.left < k.left → whole ≡ more_at inner known n y k → term_at inner known (next k.rest) ≡ Ok (z, m) → (l : ℕ) × (m.left ≤ l) × (whole ≡ more_at inner known l (plus y z) m)
 unfolding more_at
@@ -207,6 +232,7 @@ plus_on inner known whole (suc n) y z k m here room shorter so_far reads =
     let one_more : more_at inner known (suc n) y k ≡ more_at inner known n (plus y z) m = rw (is_mark_so 43 k here refl) (ap (λ (r : Result (Term × Place) Refusal). r >>= f) reads) in
     (n, omega arith, so_far ∙ one_more)
 
+-- A loop over terms takes one more term behind a -.
 minus_on : (inner : Place → Result (Sum × Place) Refusal) (known : Declarations) (whole : Result (Sum × Place) Refusal) (n : ℕ) (y : Sum) (z : Term) (k m : Place)
     → k.token ≡ mark 45 → k.left ≤ n → m.left < k.left → whole ≡ more_at inner known n y k → term_at inner known (next k.rest) ≡ Ok (z, m) → (l : ℕ) × (m.left ≤ l) × (whole ≡ more_at inner known l (minus y z) m)
 unfolding more_at
@@ -216,6 +242,7 @@ minus_on inner known whole (suc n) y z k m here room shorter so_far reads =
     let one_more : more_at inner known (suc n) y k ≡ more_at inner known n (minus y z) m = rw (not_mark 43 45 k here refl, is_mark_so 45 k here refl) (ap (λ (r : Result (Term × Place) Refusal). r >>= f) reads) in
     (n, omega arith, so_far ∙ one_more)
 
+-- A valid sum that stands there is read up to its end and beyond, as a loop goes.
 sum_goes : (inner : Place → Result (Sum × Place) Refusal) (known : Declarations) (deep : ℕ) (t : Place) (x : Sum) (m : Place) → InnerAgain inner known deep → Placed t
     → Stand t (sum_tokens x) m → ValidSum known deep x → is_the_mark 47 m.token ≡ false → is_the_mark 94 m.token ≡ false → is_the_mark 42 m.token ≡ false → SumAt inner known t x m
 unfolding sum_tokens
@@ -242,11 +269,13 @@ sum_goes inner known deep t (minus y z) m law placed p valid quiet calm dark =
     let before = sum_goes inner known deep t y k law placed q.1 valid.0 (not_mark 47 45 k sign.0 refl) (not_mark 94 45 k sign.0 refl) (not_mark 42 45 k sign.0 refl) in
     minus_on inner known (sum_at inner known t) before.0 y z k m sign.0 before.1 less.0 before.2 (term_again inner known deep (next k.rest) z m law (next_placed k.rest) sign.1 valid.1 quiet calm dark)
 
+-- A loop over terms ends where neither + nor - stands.
 more_end : (inner : Place → Result (Sum × Place) Refusal) (known : Declarations) (n : ℕ) (x : Sum) (u : Place) → is_the_mark 43 u.token ≡ false → is_the_mark 45 u.token ≡ false → more_at inner known n x u ≡ Ok (x, u)
 unfolding more_at
 more_end inner known zero x u h k = refl
 more_end inner known (suc n) x u h k = rw (h, k) refl
 
+-- A valid sum that stands there is read, if nothing goes on with it.
 sum_again : (inner : Place → Result (Sum × Place) Refusal) (known : Declarations) (deep : ℕ) (t : Place) (x : Sum) (u : Place) → InnerAgain inner known deep → Placed t
     → Stand t (sum_tokens x) u → ValidSum known deep x → EndsSum u → sum_at inner known t ≡ Ok (x, u)
 sum_again inner known deep t x u law placed p valid ends =
@@ -257,9 +286,11 @@ sum_again inner known deep t x u law placed p valid ends =
 paren_ends : (t : Place) → t.token ≡ mark 41 → EndsSum t
 paren_ends t h = record { slash = not_mark 47 41 t h refl; caret = not_mark 94 41 t h refl; star = not_mark 42 41 t h refl; up = not_mark 43 41 t h refl; down = not_mark 45 41 t h refl }
 
+-- Successors that are the same are of the same.
 suc_same : (a b : ℕ) → suc a ≡ suc b → a ≡ b
 suc_same a b e = omega arith
 
+-- A valid sum in parentheses that stands there is read, with as many open as it may have.
 inner_again : (deep : ℕ) (known : Declarations) → InnerAgain (inner_at deep known) known deep
 unfolding inner_at InnerAgain operand_tokens
 inner_again zero known t s u placed p valid = absurd (omega (arith, valid.1))

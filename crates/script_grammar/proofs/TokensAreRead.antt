@@ -12,22 +12,27 @@ use Rattle.script_grammar.specs.Words.{is_numeral, is_the_mark, is_the_word, is_
 use Rattle.script_grammar.specs.Steps.{◌>>=◌, kind_at, mark_at, word_at, numeral_at, exponent_at}
 use Rattle.script_grammar.proofs.Steps.{refusal, same_refl}
 
+-- One mark isn't another.
 pub not_mark : (m n : ℕ) (t : Place) → t.token ≡ mark n → eqb n m ≡ false → is_the_mark m t.token ≡ false
 not_mark m n t here e = ap (is_the_mark m) here ∙ e
 
+-- A mark passes its own test.
 pub is_mark_so : (m : ℕ) (t : Place) → t.token ≡ mark m → eqb m m ≡ true → is_the_mark m t.token ≡ true
 is_mark_so m t here e = ap (is_the_mark m) here ∙ e
 
+-- A mark that stands there is read.
 pub mark_again : (m : ℕ) (what : What) (t u : Place) → t.token ≡ mark m → next t.rest ≡ u → eqb m m ≡ true → mark_at m what t ≡ Ok u
 unfolding mark_at
 mark_again m what t u here behind same = rw (is_mark_so m t here same) (ap (λ (x : Place). Ok x) behind)
 
+-- A word that stands there is read.
 pub word_again : (w : List ℕ) (what : What) (t u : Place) → t.token ≡ word w → next t.rest ≡ u → word_at w what t ≡ Ok u
 unfolding word_at
 word_again w what t u here behind =
     let test : is_the_word w t.token ≡ true = ap (is_the_word w) here ∙ same_refl w in
     rw test (ap (λ (x : Place). Ok x) behind)
 
+-- A numeral that stands there is read.
 pub numeral_again : (t : Place) (w : List ℕ) (u : Place) → t.token ≡ word w → is_numeral w ≡ true → next t.rest ≡ u → numeral_at t ≡ Ok (w, u)
 unfolding numeral_at
 numeral_again t w u here numeral behind =
@@ -35,6 +40,7 @@ numeral_again t w u here numeral behind =
     ∙ ap (λ (b : Bool). cond {A = Result (List ℕ × Place) Refusal} b (Ok (w, next t.rest)) (Err (record { left = t.left; kind = kind_at (word w) (Expected whats.Numeral) }))) numeral
     ∙ ap (λ (x : Place). Ok (w, x)) behind
 
+-- A numeral of at most 1,000 that stands there is read as an exponent.
 pub exponent_again : (t : Place) (w : List ℕ) (u : Place) → t.token ≡ word w → is_numeral w ≡ true → value_of w ≤ 1000 → next t.rest ≡ u → exponent_at t ≡ Ok (w, u)
 unfolding exponent_at
 exponent_again t w u here numeral low behind =

@@ -10,8 +10,9 @@ use Rattle.script_grammar.specs.Trees.{Remark, remark_tokens}
 use Rattle.script_grammar.specs.Statements.{begins_remark, remark_at, remarks_at}
 use Rattle.script_grammar.specs.Valid.{Stand}
 use Rattle.script_grammar.proofs.Steps.{ok_is, bind_ok, chosen, word_is, second_so, Stand-then}
-use Rattle.script_grammar.proofs.FoundSteps.{mark_step, word_step, text_step}
+use Rattle.script_grammar.proofs.StepsBehindRead.{mark_step, word_step, text_step}
 
+-- A remark that is read stands there.
 pub remark_found : (t : Place) (x : Remark × Place) → begins_remark t.token ≡ true → remark_at t ≡ Ok x → Stand t (remark_tokens x.0) x.1
 unfolding remark_at
 remark_found t x begins e =
@@ -45,6 +46,7 @@ remarks_found (suc n) done t x e =
       | inr nay ↦ subst (λ (y : List Remark × Place). (more : List Remark) × (y.0 ≡ done ++ more) × Stand t (flat_map remark_tokens more) y.1) (ok_is (done, t) x nay.1) ([], sym (append-nil done), refl)
     ]
 
+-- Remarks that are read from none on stand there.
 pub all_remarks_found : (n : ℕ) (t : Place) (x : List Remark × Place) → remarks_at n [] t ≡ Ok x → Stand t (flat_map remark_tokens x.0) x.1
 all_remarks_found n t x e =
     let h = remarks_found n [] t x e in

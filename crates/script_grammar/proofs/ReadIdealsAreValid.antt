@@ -12,8 +12,8 @@ use Rattle.script_grammar.specs.Expressions.{Declarations}
 use Rattle.script_grammar.specs.Statements.{argument_at, poly_at, no_room, member_at, generators, count_of, members_at, ideal_at}
 use Rattle.script_grammar.specs.Valid.{Stand, IsOneOf, ValidMember, ValidMembers, ValidStatement}
 use Rattle.script_grammar.proofs.Steps.{ok_is, bind_ok, chosen, went_on, went_in, mark_is, word_is, Stand-then}
-use Rattle.script_grammar.proofs.FoundExpressions.{expression_found}
-use Rattle.script_grammar.proofs.FoundSteps.{mark_step, new_name_step, name_among_step}
+use Rattle.script_grammar.proofs.ReadExpressionsAreValid.{expression_found}
+use Rattle.script_grammar.proofs.StepsBehindRead.{mark_step, new_name_step, name_among_step}
 
 -- a name in parentheses
 pub argument_step : {B : Type 0} (names : List (List ℕ)) (t : Place) (f : List ℕ × Place → Result B Refusal) (y : B) → (argument_at names t >>= f) ≡ Ok y
@@ -29,9 +29,11 @@ argument_step names t f y e =
 abbrev pub Never : (A : Type 0) → Result A Refusal → Type 0
 Never A r = (x : A) → r ≡ Ok x → ⊥
 
+-- A refusal is nothing that is read.
 never_refused : (A : Type 0) (d : Refusal) → Never A (Err d)
 never_refused A d x e = cc
 
+-- Where both branches of a test read nothing, the test reads nothing.
 never_cond : (A : Type 0) (b : Bool) (r s : Result A Refusal) → Never A r → Never A s → Never A (cond b r s)
 never_cond A true r s p q = p
 never_cond A false r s p q = q
@@ -39,13 +41,7 @@ never_cond A false r s p q = q
 -- where there is no room for a member, none is read
 pub no_room_never : (A : Type 0) (known : Declarations) (t : Place) → Never A (no_room {A = A} known t)
 no_room_never A known t =
-    let w = word_of t.token in
-    never_cond A (is_word t.token) _ _
-    (never_cond A (is_numeral w) _ _ (never_refused A _)
-    (never_cond A (is_one_of keywords w) _ _ (never_refused A _)
-    (never_cond A (is_one_of known.polys w) _ _ (never_refused A _)
-    (never_cond A (not (is_short known.letters w)) _ _ (never_refused A _)
-    (never_cond A (has_large w) _ _ (never_refused A _) (never_refused A _))))))
+    never_cond A (is_word t.token) _ _ (never_refused A _)
     (never_cond A (is_the_mark 40 t.token || (is_the_mark 43 t.token || is_the_mark 45 t.token)) _ _ (never_refused A _) (never_refused A _))
 
 pub record MemberIs (known : Declarations) (count : ℕ) (t : Place) (x : Member × Place) : Type 0 where
@@ -53,6 +49,7 @@ pub record MemberIs (known : Declarations) (count : ℕ) (t : Place) (x : Member
   pub valid : ValidMember known x.0
   pub fits : count + generators known x.0 ≤ 64
 
+-- A member that is read stands there, is valid, and has room behind the generators before it.
 pub member_found : (known : Declarations) (count : ℕ) (t : Place) (x : Member × Place) → count ≤ 64 → member_at known count t ≡ Ok x → MemberIs known count t x
 unfolding member_at
 member_found known count t x room e =
@@ -87,6 +84,7 @@ pub record MembersRead (known : Declarations) (t : Place) (x : Members × Place)
   pub valid : ValidMembers known x.0
   pub fits : count_of known x.0 ≤ 64
 
+-- Members that a loop reads are valid with those before, and at most 64 generators.
 pub members_found : (n : ℕ) (known : Declarations) (start : Place) (ms : Members) (t : Place) (x : Members × Place) → MembersAre known start ms t → members_at n known ms t ≡ Ok x → MembersRead known start x
 unfolding members_at
 members_found zero known start ms t x so_far e = absurd cc
@@ -111,6 +109,7 @@ members_found (suc n) known start ms t x so_far e =
 abbrev pub StatementIs : Declarations → ℕ → Place → Statement × Place → Type 0
 StatementIs known count t x = Stand t (statement_tokens x.0) x.1 × ValidStatement known count x.0
 
+-- The statement of a polynomial that is read stands there and is valid.
 pub poly_found : (known : Declarations) (count : ℕ) (t : Place) (x : Statement × Place) → t.token ≡ word (codes "poly") → poly_at known (next t.rest) ≡ Ok x → StatementIs known count t x
 unfolding poly_at
 poly_found known count t x here e =
@@ -122,6 +121,7 @@ poly_found known count t x here e =
     subst (λ (y : Statement × Place). StatementIs known count t y) (ok_is _ x after.1)
     ((here, (name.1, (equals.0, Stand-then _ (sum_tokens sum.0.0) sum.0.1 (one (mark 59)) _ s.0 (after.0, refl)))), (name.2, s.1))
 
+-- The statement of an ideal that is read stands there and is valid.
 pub ideal_found : (known : Declarations) (count : ℕ) (t : Place) (x : Statement × Place) → t.token ≡ word (codes "ideal") → ideal_at known (next t.rest) ≡ Ok x → StatementIs known count t x
 unfolding ideal_at
 ideal_found known count t x here e =
@@ -136,10 +136,10 @@ ideal_found known count t x here e =
           subst (λ (y : Statement × Place). StatementIs known count t y) (ok_is _ x after.1)
           ((here, (name.1, (equals.0, (word_is (codes "std") start.token yea.0, (a.1, (a.2, (a.3, (after.0, refl)))))))), (name.2, a.4))
       | inr nay ↦
-          let first = bind_ok _ _ _ nay.1 in
+          let all = bind_ok _ _ _ nay.1 in
+          let first = bind_ok (member_at known 0 start) _ all.0 all.1 in
           let m = member_found known 0 start first.0 (omega arith) first.1 in
-          let all = bind_ok _ _ _ first.2 in
-          let ms = members_found _ known start (only first.0.0) first.0.1 all.0 (record { stand = m.stand; valid = m.valid; fits = omega (arith, m.fits) }) all.1 in
+          let ms = members_found _ known start (only first.0.0) first.0.1 all.0 (record { stand = m.stand; valid = m.valid; fits = omega (arith, m.fits) }) first.2 in
           subst (λ (y : Statement × Place). StatementIs known count t y) (ok_is _ x all.2)
           ((here, (name.1, (equals.0, ms.stand))), (name.2, ms.valid, ms.fits))
     ]

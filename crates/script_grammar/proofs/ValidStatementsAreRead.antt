@@ -19,17 +19,19 @@ use Rattle.script_grammar.proofs.Steps.{Stand-split}
 use Rattle.script_grammar.proofs.Places.{begins_with_word, behind_word, word_no_end}
 use Rattle.script_grammar.proofs.WordKinds.{NoKeywords, among_no_keyword, no_keywords_after}
 use Rattle.script_grammar.proofs.FirstTokens.{not_this, is_keyword}
-use Rattle.script_grammar.proofs.OnlySteps.{on_then, off_then, read_then, mark_then, name_among_then, argument_then}
-use Rattle.script_grammar.proofs.OnlyRemarks.{remark_again, remark_begins}
-use Rattle.script_grammar.proofs.OnlyIdeals.{poly_again, ideal_named_again, ideal_again}
+use Rattle.script_grammar.proofs.StepsAreRead.{on_then, off_then, read_then, mark_then, name_among_then, argument_then}
+use Rattle.script_grammar.proofs.RemarksAreRead.{remark_again, remark_begins}
+use Rattle.script_grammar.proofs.ValidIdealsAreRead.{poly_again, ideal_named_again, ideal_again}
 
 -- the tokens behind a command's word
 abbrev name_tail : List ℕ → List Token
 name_tail name = mark 40 ∷ word name ∷ mark 41 ∷ one (mark 59)
 
+-- the tokens behind the word of a command on std( )
 abbrev std_tail : List ℕ → List Token
 std_tail name = mark 40 ∷ word (codes "std") ∷ mark 40 ∷ word name ∷ mark 41 ∷ mark 41 ∷ one (mark 59)
 
+-- A command on a name is read, whether it is on a polynomial or an ideal.
 command_again-at : (known : Declarations) (w : Word) (t : Place) (name : List ℕ) (u : Place) (b : Bool) → is_on_poly w ≡ b → NoKeywords known.ideals → Stand t (name_tail name) u → IsOneOf (cond b known.polys known.ideals) name → command_at known w t ≡ Ok (command w name, u)
 unfolding command_at
 command_again-at known w t name u true kind free p valid =
@@ -43,6 +45,7 @@ command_again-at known w t name u false kind free p valid =
     (off_then (is_the_word (codes "std") inside.token) _ _ _ (not_this (codes "std") inside.token refl plain)
     (name_among_then _ name _ _ _ p.1.0 valid (mark_then _ _ _ _ _ p.1.1.0 (mark_then _ _ _ _ _ p.1.1.1.0 (ap (λ (x : Place). Ok (command w name, x)) p.1.1.1.1))))))
 
+-- A command on std( ) is read.
 command_std_again : (known : Declarations) (w : Word) (t : Place) (name : List ℕ) (u : Place) → is_on_poly w ≡ false → Stand t (std_tail name) u → IsOneOf known.ideals name → command_at known w t ≡ Ok (command_std w name, u)
 unfolding command_at
 command_std_again known w t name u kind p valid =
@@ -60,6 +63,7 @@ record BeginsCommand (w : Word) (token : Token) : Type 0 where
   no_ideal : is_the_word (codes "ideal") token ≡ false
   is : command_of token ≡ Some w
 
+-- The word of a command begins that command, and no other statement.
 begins_command : (w : Word) → BeginsCommand w (word (command_word w))
 begins_command Std = record { no_remark = refl; no_poly = refl; no_ideal = refl; is = refl }
 begins_command Vdim = record { no_remark = refl; no_poly = refl; no_ideal = refl; is = refl }
@@ -68,6 +72,7 @@ begins_command HighCorner = record { no_remark = refl; no_poly = refl; no_ideal 
 begins_command Milnor = record { no_remark = refl; no_poly = refl; no_ideal = refl; is = refl }
 begins_command Tjurina = record { no_remark = refl; no_poly = refl; no_ideal = refl; is = refl }
 
+-- Where a command is read from behind its word on, the statement is read.
 command_reads : (known : Declarations) (count : ℕ) (w : Word) (t : Place) (x : Statement × Place) → t.token ≡ word (command_word w) → count < 64 → command_at known w (next t.rest) ≡ Ok x → statement_at known count t ≡ Ok x
 unfolding statement_at
 command_reads known count w t x here room reads =
@@ -77,6 +82,7 @@ command_reads known count w t x here room reads =
     (off_then (is_the_word (codes "ideal") t.token) _ _ _ b.no_ideal
     (ap (command_from known count t) b.is ∙ off_then (eqb count 64) _ _ _ (ne_eqb count 64 (λ e. absurd (omega arith))) reads)))
 
+-- A valid statement that stands there is read.
 statement_again : (known : Declarations) (count : ℕ) (t : Place) (s : Statement) (u : Place) → NoKeywords known.ideals → Stand t (statement_tokens s) u → ValidStatement known count s → statement_at known count t ≡ Ok (s, u)
 unfolding statement_at
 statement_again known count t (remark r) u free p valid = on_then (begins_remark t.token) _ _ _ (remark_begins t r u p) (read_then (remark_at t) _ (r, u) _ (remark_again t r u p) refl)
@@ -94,6 +100,7 @@ statement_again known count t (ideal name ms) u free p valid =
 statement_again known count t (command w name) u free p valid = command_reads known count w t (command w name, u) p.0 valid.0 (command_again-at known w (next t.rest) name u (is_on_poly w) refl free p.1 valid.1)
 statement_again known count t (command_std w name) u free p valid = command_reads known count w t (command_std w name, u) p.0 valid.0 (command_std_again known w (next t.rest) name u valid.1 p.1 valid.2)
 
+-- The first token of a statement is a word.
 statement_word : (s : Statement) → begins_with_word (statement_tokens s) ≡ true
 statement_word (remark option) = refl
 statement_word (remark library) = refl
@@ -103,6 +110,7 @@ statement_word (ideal name ms) = refl
 statement_word (command w name) = refl
 statement_word (command_std w name) = refl
 
+-- Valid statements that stand up to the end are read.
 pub statements_again : (n : ℕ) (known : Declarations) (count : ℕ) (done : List Statement) (t : Place) (statements : List Statement) (last : Place) → NoKeywords known.ideals → Placed t → t.left < n
     → Stand t (flat_map statement_tokens statements) last → last.token ≡ end → ValidStatements known count statements → statements_at n known count done t ≡ Ok (done ++ statements)
 unfolding statements_at

@@ -12,11 +12,11 @@ use Rattle.script_grammar.specs.Statements.{letters_of, ring_at, noether_at}
 use Rattle.script_grammar.specs.Script.{begins_later, tree_at, script_of}
 use Rattle.script_grammar.specs.Valid.{Stand, IsValid, IsScript, first_known}
 use Rattle.script_grammar.proofs.Steps.{ok_is, bind_ok, word_is, Stand-then}
-use Rattle.script_grammar.proofs.FoundSteps.{taken}
-use Rattle.script_grammar.proofs.FoundRemarks.{all_remarks_found}
-use Rattle.script_grammar.proofs.FoundRing.{ring_found}
-use Rattle.script_grammar.proofs.FoundNoether.{noether_found}
-use Rattle.script_grammar.proofs.FoundStatements.{statements_found}
+use Rattle.script_grammar.proofs.StepsBehindRead.{taken}
+use Rattle.script_grammar.proofs.ReadRemarksStand.{all_remarks_found}
+use Rattle.script_grammar.proofs.ReadRingIsValid.{ring_found}
+use Rattle.script_grammar.proofs.ReadNoetherIsValid.{noether_found}
+use Rattle.script_grammar.proofs.ReadStatementsAreValid.{statements_found}
 
 -- a test that must come out true, where two other refusals may be given
 taken_of : {A B : Type 0} (b c : Bool) (d e : Refusal) (r : Result A Refusal) (f : A → Result B Refusal) (y : B) → (cond b r (cond c (Err d) (Err e)) >>= f) ≡ Ok y → (b ≡ true) × ((r >>= f) ≡ Ok y)
@@ -24,6 +24,7 @@ taken_of true c d e r f y h = (refl, h)
 taken_of false true d e r f y h = absurd cc
 taken_of false false d e r f y h = absurd cc
 
+-- A tree that is read stands there up to the end and is valid.
 pub tree_found : (t : Place) (x : Tree) → tree_at t ≡ Ok x → ((u : Place) × Stand t (tree_tokens x) u × (u.token ≡ end)) × IsValid x
 unfolding tree_at
 tree_found t x e =
@@ -56,6 +57,7 @@ tree_found t x e =
       record { ring = r.1; noether = m.1; statements = s.valid },
     )
 
+-- Bytes that are read are a script of the tree that was read.
 pub script_found : (bytes : List ℕ) (t : Tree) → script_of bytes ≡ Ok t → IsScript bytes t
 unfolding script_of
 script_found bytes t e = tree_found (next bytes) t e

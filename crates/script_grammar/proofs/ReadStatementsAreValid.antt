@@ -14,11 +14,12 @@ use Rattle.script_grammar.specs.Statements.{begins_remark, is_on_poly, command_a
 use Rattle.script_grammar.specs.Script.{command_of, command_from, after, commands_in, statement_at, statements_at}
 use Rattle.script_grammar.specs.Valid.{Stand, IsOneOf, ValidStatement, ValidStatements}
 use Rattle.script_grammar.proofs.Steps.{ok_is, bind_ok, chosen, went_on, word_is, end_is, Stand-then}
-use Rattle.script_grammar.proofs.FoundSteps.{mark_step, name_among_step}
-use Rattle.script_grammar.proofs.FoundRemarks.{remark_found}
+use Rattle.script_grammar.proofs.StepsBehindRead.{mark_step, name_among_step}
+use Rattle.script_grammar.proofs.ReadRemarksStand.{remark_found}
 use Rattle.script_grammar.proofs.WordKinds.{command_of_is}
-use Rattle.script_grammar.proofs.FoundIdeals.{StatementIs, argument_step, poly_found, ideal_found}
+use Rattle.script_grammar.proofs.ReadIdealsAreValid.{StatementIs, argument_step, poly_found, ideal_found}
 
+-- A command that is read stands there and is valid.
 command_found : (known : Declarations) (count : ℕ) (w : Word) (t : Place) (x : Statement × Place) → t.token ≡ word (command_word w) → count < 64 → command_at known w (next t.rest) ≡ Ok x → StatementIs known count t x
 unfolding command_at
 command_found known count w t x here room e =
@@ -49,12 +50,14 @@ command_found known count w t x here room e =
           ]
     ]
 
+-- What is read from the word of a command on is a valid command with fewer than 64 before it.
 command_from_found : (known : Declarations) (count : ℕ) (t : Place) (o : Option Word) (x : Statement × Place) → count ≤ 64 → command_of t.token ≡ o → command_from known count t o ≡ Ok x → StatementIs known count t x
 command_from_found known count t None x room is e = absurd cc
 command_from_found known count t (Some c) x room is e =
     let g = went_on (eqb count 64) _ _ x e in
     command_found known count c t x (command_of_is t.token c is) (omega (arith, eqb-false count 64 g.0)) g.1
 
+-- A statement that is read stands there and is valid behind those before it.
 pub statement_found : (known : Declarations) (count : ℕ) (t : Place) (x : Statement × Place) → count ≤ 64 → statement_at known count t ≡ Ok x → StatementIs known count t x
 unfolding statement_at
 statement_found known count t x room e =
@@ -93,6 +96,7 @@ pub record StatementsAre (known : Declarations) (count : ℕ) (done : List State
   pub whole : last.token ≡ end
   pub valid : ValidStatements known count statements
 
+-- Statements that a loop reads stand there up to the end, each valid behind those before it.
 pub statements_found : (n : ℕ) (known : Declarations) (count : ℕ) (done : List Statement) (t : Place) (x : List Statement) → count ≤ 64 → statements_at n known count done t ≡ Ok x → StatementsAre known count done t x
 unfolding statements_at
 statements_found zero known count done t x room e = absurd cc

@@ -13,8 +13,9 @@ use Rattle.script_grammar.specs.Valid.{Stand}
 use Rattle.script_grammar.specs.Places.{Placed}
 use Rattle.script_grammar.proofs.Places.{stand_placed}
 use Rattle.script_grammar.proofs.Steps.{refusal, err_is, bind_ok, Stand-then, Stand-split, mark_is, word_is}
-use Rattle.script_grammar.proofs.Local.{Reader, Any, RefusesSo, Local, same_head, local_same, local_if, local_next, local_refuse, local_done}
+use Rattle.script_grammar.proofs.ByTokens.{Reader, Any, RefusesSo, Local, same_head, local_same, local_if, local_next, local_refuse, local_done}
 
+-- What two readers refuse one after the other is refused by the first, or by the second behind what the first read.
 then_refuses : {P : ReadKind → List Token → Type 0} {A B : Type 0} (n m : ℕ) (W : Token → Type 0) (R : Reader A) (L : A → List Token → Type 0) (S : A × Place → Result (B × Place) Refusal) (N : B → List Token → Type 0)
     → Local P A n W R L
     → ((x : A) (a : List Token) → L x a → Local P B m Any (λ u. S (x, u)) (λ y b. N y (a ++ b)))
@@ -102,6 +103,7 @@ pub local_behind : {P : ReadKind → List Token → Type 0} {A : Type 0} {n : �
 local_behind {P} {A} {n} {W} {N} {R} i here law =
     local_next R (let s = law.some in (s.0, i ∷ s.1, s.2)) (λ j w. subst (λ (k : Token). Local P A n Any R (λ x b. N x (k ∷ b))) (sym (here j w)) law)
 
+-- Steps of reading may be grouped in either way.
 pub bind_assoc : {A B C : Type 0} (r : Result A Refusal) (f : A → Result B Refusal) (g : B → Result C Refusal) → (r >>= f >>= g) ≡ (r >>= λ x. f x >>= g)
 bind_assoc (Ok x) f g = refl
 bind_assoc (Err d) f g = refl

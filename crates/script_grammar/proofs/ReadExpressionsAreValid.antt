@@ -13,11 +13,12 @@ use Rattle.script_grammar.specs.Steps.{◌>>=◌, mark_at, numeral_at, exponent_
 use Rattle.script_grammar.specs.Expressions.{Declarations, below_at, fraction_at, word_operand_at, operand_at, takes_exponent, power_at, times_at, term_at, more_at, first_at, sum_at, inner_at, expression_at}
 use Rattle.script_grammar.specs.Valid.{Stand, ValidOperand, ValidPower, ValidTerm, ValidSum}
 use Rattle.script_grammar.proofs.Steps.{refusal, ok_is, bind_ok, chosen, went_on, went_in, mark_is, some_word_is, Stand-then}
-use Rattle.script_grammar.proofs.FoundTokens.{mark_found, numeral_found, exponent_found}
+use Rattle.script_grammar.proofs.ReadTokensStand.{mark_found, numeral_found, exponent_found}
 
 abbrev pub OperandIs : Declarations → ℕ → Place → Operand × Place → Type 0
 OperandIs known deep t o = Stand t (operand_tokens o.0) o.1 × ValidOperand known deep o.0
 
+-- What is read below / is a numeral that isn't zero modulo the characteristic.
 below_found : (known : Declarations) (t : Place) (digits : List ℕ) (o : Operand × Place) → below_at known digits t ≡ Ok o
     → (below : List ℕ) × (o.0 ≡ fraction digits below) × (t.token ≡ word below) × (is_numeral below ≡ true) × (value_of below % known.prime ≡ 0 → ⊥) × (next t.rest ≡ o.1)
 unfolding below_at
@@ -30,6 +31,7 @@ below_found known t digits o e =
     let n = numeral_found t a.0 a.1 in
     (a.0.0, sym (ap (λ (p : Operand × Place). p.0) same), n.0, n.1, eqb-false _ _ g.0, n.2 ∙ ap (λ (p : Operand × Place). p.1) same)
 
+-- What is read from a numeral on is that numeral, or a fraction with it above.
 pub fraction_found : (known : Declarations) (deep : ℕ) (t : Place) (digits : List ℕ) (o : Operand × Place) → t.token ≡ word digits → is_numeral digits ≡ true → fraction_at known digits (next t.rest) ≡ Ok o → OperandIs known deep t o
 unfolding fraction_at operand_tokens
 fraction_found known deep t digits o here numeral e =
@@ -43,11 +45,13 @@ fraction_found known deep t digits o here numeral e =
       | inr nay ↦ subst (λ (y : Operand × Place). OperandIs known deep t y) (ok_is x o nay.1) ((here, refl), numeral)
     ]
 
+-- A word that is no numeral and no keyword, and is a poly's name or a short monomial with small exponents, passes the test of an operand.
 name_tests : (a b c d e : Bool) → a ≡ false → b ≡ false → (c ≡ true) ⊎ (d ≡ true) × (e ≡ false) → (not a && (not b && (c || (d && not e)))) ≡ true
 name_tests a b c d e p q (inl r) = rw (p, q, r) refl
 name_tests a b true d e p q (inr r) = rw (p, q) refl
 name_tests a b false d e p q (inr r) = rw (p, q, r.0, r.1) refl
 
+-- What is read from a word on stands there and is a valid operand.
 word_found : (known : Declarations) (deep : ℕ) (t : Place) (w : List ℕ) (o : Operand × Place) → t.token ≡ word w → word_operand_at known w t ≡ Ok o → OperandIs known deep t o
 unfolding word_operand_at operand_tokens
 word_found known deep t w o here e =
@@ -72,6 +76,7 @@ word_found known deep t w o here e =
 abbrev pub InnerIs : (Place → Result (Sum × Place) Refusal) → Declarations → ℕ → Type 0
 InnerIs inner known deep = (t : Place) (s : Sum × Place) → t.token ≡ mark 40 → inner t ≡ Ok s → Stand t (operand_tokens (inside s.0)) s.1 × ValidOperand known deep (inside s.0)
 
+-- What is read in parentheses is a valid operand, if what is inside is a valid sum.
 paren_found : (inner : Place → Result (Sum × Place) Refusal) (known : Declarations) (deep : ℕ) (t : Place) (o : Operand × Place) → InnerIs inner known deep → t.token ≡ mark 40 → (inner t >>= λ s. Ok (inside s.0, s.1)) ≡ Ok o → OperandIs known deep t o
 paren_found inner known deep t o law here e =
     let f : Sum × Place → Result (Operand × Place) Refusal = λ s. Ok (inside s.0, s.1) in
@@ -79,6 +84,7 @@ paren_found inner known deep t o law here e =
     let x : Operand × Place = (inside a.0.0, a.0.1) in
     subst (λ (y : Operand × Place). OperandIs known deep t y) (ok_is x o a.2) (law t a.0 here a.1)
 
+-- What is read as an operand stands there and is valid.
 pub operand_found : (inner : Place → Result (Sum × Place) Refusal) (known : Declarations) (deep : ℕ) (t : Place) (o : Operand × Place) → InnerIs inner known deep → operand_at inner known t ≡ Ok o → OperandIs known deep t o
 unfolding operand_at
 operand_found inner known deep t o law e =
@@ -93,6 +99,7 @@ operand_found inner known deep t o law e =
 abbrev pub PowerIs : Declarations → ℕ → Place → Power × Place → Type 0
 PowerIs known deep t x = Stand t (power_tokens x.0) x.1 × ValidPower known deep x.0
 
+-- What is read as a power stands there and is valid.
 pub power_found : (inner : Place → Result (Sum × Place) Refusal) (known : Declarations) (deep : ℕ) (t : Place) (x : Power × Place) → InnerIs inner known deep → power_at inner known t ≡ Ok x → PowerIs known deep t x
 unfolding power_at power_tokens
 power_found inner known deep t x law e =
@@ -117,6 +124,7 @@ power_found inner known deep t x law e =
 abbrev pub TermIs : Declarations → ℕ → Place → Term × Place → Type 0
 TermIs known deep t x = Stand t (term_tokens x.0) x.1 × ValidTerm known deep x.0
 
+-- What a loop over powers reads, behind a valid term, is a valid term with it.
 times_found : (inner : Place → Result (Sum × Place) Refusal) (known : Declarations) (deep : ℕ) (start : Place) (n : ℕ) (y : Term) (t : Place) (x : Term × Place) → InnerIs inner known deep → TermIs known deep start (y, t) → times_at inner known n y t ≡ Ok x → TermIs known deep start x
 unfolding times_at term_tokens
 times_found inner known deep start zero y t x law so_far e = subst (λ (z : Term × Place). TermIs known deep start z) (ok_is (y, t) x e) so_far
@@ -131,6 +139,7 @@ times_found inner known deep start (suc n) y t x law so_far e =
       | inr nay ↦ subst (λ (z : Term × Place). TermIs known deep start z) (ok_is same x nay.1) so_far
     ]
 
+-- What is read as a term stands there and is valid.
 pub term_found : (inner : Place → Result (Sum × Place) Refusal) (known : Declarations) (deep : ℕ) (t : Place) (x : Term × Place) → InnerIs inner known deep → term_at inner known t ≡ Ok x → TermIs known deep t x
 unfolding term_at term_tokens
 term_found inner known deep t x law e =
@@ -141,6 +150,7 @@ term_found inner known deep t x law e =
 abbrev pub SumIs : Declarations → ℕ → Place → Sum × Place → Type 0
 SumIs known deep t x = Stand t (sum_tokens x.0) x.1 × ValidSum known deep x.0
 
+-- What is read as the first term of a sum, with its sign, stands there and is valid.
 pub first_found : (inner : Place → Result (Sum × Place) Refusal) (known : Declarations) (deep : ℕ) (t : Place) (x : Sum × Place) → InnerIs inner known deep → first_at inner known t ≡ Ok x → SumIs known deep t x
 unfolding first_at sum_tokens
 first_found inner known deep t x law e =
@@ -167,6 +177,7 @@ first_found inner known deep t x law e =
       ]
     ]
 
+-- What a loop over terms reads, behind a valid sum, is a valid sum with it.
 more_found : (inner : Place → Result (Sum × Place) Refusal) (known : Declarations) (deep : ℕ) (start : Place) (n : ℕ) (y : Sum) (t : Place) (x : Sum × Place) → InnerIs inner known deep → SumIs known deep start (y, t) → more_at inner known n y t ≡ Ok x → SumIs known deep start x
 unfolding more_at sum_tokens
 more_found inner known deep start zero y t x law so_far e = subst (λ (z : Sum × Place). SumIs known deep start z) (ok_is (y, t) x e) so_far
@@ -188,6 +199,7 @@ more_found inner known deep start (suc n) y t x law so_far e =
       ]
     ]
 
+-- What is read as a sum stands there and is valid.
 pub sum_found : (inner : Place → Result (Sum × Place) Refusal) (known : Declarations) (deep : ℕ) (t : Place) (x : Sum × Place) → InnerIs inner known deep → sum_at inner known t ≡ Ok x → SumIs known deep t x
 unfolding sum_at
 sum_found inner known deep t x law e =
@@ -195,6 +207,7 @@ sum_found inner known deep t x law e =
     let a = bind_ok (first_at inner known t) f x e in
     more_found inner known deep t a.0.1.left a.0.0 a.0.1 x law (first_found inner known deep t a.0 law a.1) a.2
 
+-- What is read in parentheses, of which so many more may be open, is valid with as many.
 pub inner_found : (deep : ℕ) (known : Declarations) → InnerIs (inner_at deep known) known deep
 unfolding inner_at operand_tokens
 inner_found zero known t s here e = absurd cc

@@ -12,8 +12,9 @@ use Rattle.script_grammar.specs.Valid.{Stand}
 use Rattle.script_grammar.specs.Places.{Placed}
 use Rattle.script_grammar.proofs.Steps.{Stand-split}
 use Rattle.script_grammar.proofs.Places.{begins_with_word, behind_word}
-use Rattle.script_grammar.proofs.OnlySteps.{on_then, off_then, read_then, mark_then, word_then, text_then}
+use Rattle.script_grammar.proofs.StepsAreRead.{on_then, off_then, read_then, mark_then, word_then, text_then}
 
+-- A remark that stands there is read.
 pub remark_again : (t : Place) (r : Remark) (u : Place) → Stand t (remark_tokens r) u → remark_at t ≡ Ok (r, u)
 unfolding remark_at
 remark_again t option u p =
@@ -23,14 +24,17 @@ remark_again t library u p =
     off_then (is_the_word (codes "option") t.token) _ _ _ (ap (is_the_word (codes "option")) p.0)
     (text_then (codes "sing.lib") _ (next t.rest) _ _ p.1.0 (mark_then _ _ _ _ _ p.1.1.0 (ap (λ (x : Place). Ok (library, x)) p.1.1.1)))
 
+-- A remark begins with one of its two words.
 pub remark_begins : (t : Place) (r : Remark) (u : Place) → Stand t (remark_tokens r) u → begins_remark t.token ≡ true
 remark_begins t option u p = ap begins_remark p.0
 remark_begins t library u p = ap begins_remark p.0
 
+-- The first token of a remark is a word.
 remark_word : (r : Remark) → begins_with_word (remark_tokens r) ≡ true
 remark_word option = refl
 remark_word library = refl
 
+-- Remarks that stand there are read, up to where none begins.
 pub remarks_again : (n : ℕ) (done : List Remark) (t : Place) (rs : List Remark) (u : Place) → Placed t → t.left ≤ n → Stand t (flat_map remark_tokens rs) u → begins_remark u.token ≡ false → remarks_at n done t ≡ Ok (done ++ rs, u)
 unfolding remarks_at
 remarks_again zero done t [] u placed room p over = ap (λ (x : Place). Ok (done, x)) p ∙ ap (λ (l : List Remark). Ok (l, u)) (sym (append-nil done))

@@ -12,12 +12,13 @@ use Rattle.script_grammar.specs.Valid.{Stand, IsValid, IsScript, first_known}
 use Rattle.script_grammar.specs.Places.{Placed}
 use Rattle.script_grammar.proofs.Steps.{ok_is, Stand-split}
 use Rattle.script_grammar.proofs.Places.{next_placed, stand_placed}
-use Rattle.script_grammar.proofs.OnlySteps.{on_then, read_then}
-use Rattle.script_grammar.proofs.OnlyRemarks.{remarks_again}
-use Rattle.script_grammar.proofs.OnlyRing.{ring_again}
-use Rattle.script_grammar.proofs.OnlyNoether.{noether_again}
-use Rattle.script_grammar.proofs.OnlyStatements.{statements_again}
+use Rattle.script_grammar.proofs.StepsAreRead.{on_then, read_then}
+use Rattle.script_grammar.proofs.RemarksAreRead.{remarks_again}
+use Rattle.script_grammar.proofs.ValidRingIsRead.{ring_again}
+use Rattle.script_grammar.proofs.ValidNoetherIsRead.{noether_again}
+use Rattle.script_grammar.proofs.ValidStatementsAreRead.{statements_again}
 
+-- A valid tree that stands up to the end is read.
 tree_again : (t : Place) (x : Tree) (u : Place) → Placed t → Stand t (tree_tokens x) u → u.token ≡ end → IsValid x → tree_at t ≡ Ok x
 unfolding tree_at
 tree_again t x u placed p whole valid =
@@ -40,9 +41,11 @@ tree_again t x u placed p whole valid =
     (read_then _ _ (x.noether, d.0) _ (on_then (is_the_word (codes "noether") at_noether.token) (noether_at letters (next at_noether.rest)) _ _ (ap (is_the_word (codes "noether")) d.1.0) (noether_again letters (next at_noether.rest) x.noether d.0 valid.noether d.1.1))
     (read_then _ _ x.statements _ (statements_again _ (first_known x.ring) 0 [] d.0 x.statements u refl statements_placed.1 (omega arith) d.2 whole valid.statements) refl))))
 
+-- Each script of the grammar is read as its tree.
 pub script_again : (bytes : List ℕ) (t : Tree) → IsScript bytes t → script_of bytes ≡ Ok t
 unfolding script_of
 script_again bytes t s = tree_again (next bytes) t s.0.0 (next_placed bytes) s.0.1 s.0.2 s.1
 
+-- No bytes are a script with two trees.
 pub script_once : (bytes : List ℕ) (t u : Tree) → IsScript bytes t → IsScript bytes u → t ≡ u
 script_once bytes t u s r = ok_is t u (sym (script_again bytes t s) ∙ script_again bytes u r)

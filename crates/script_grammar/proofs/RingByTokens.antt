@@ -1,5 +1,5 @@
 -- Remarks and the ring: what is read, what is refused, and what the tokens before begin.
--- Each lemma goes along its reading function; the loops over remarks and letters are loops of LocalLoops.
+-- Each lemma goes along its reading function; the loops over remarks and letters are loops of LoopsByTokens.
 use Rattle.std.proofs.Common.{◌≡◌, ℕ, zero, suc, ◌<◌, Bool, true, false, cond, not, ◌&&◌, ◌||◌, eqb, List, [], ◌∷◌, ◌++◌, length, Ok, refl, sym, ap, subst, ◌∙◌, arith, nat_lt, append_assoc}
 use Rattle.std.specs.Prelude.{codes}
 use Rattle.std.specs.List.{list_any, list_all, flat_map}
@@ -20,16 +20,17 @@ use Rattle.script_grammar.specs.First.{IsLate}
 use Rattle.script_grammar.specs.Places.{is_last}
 use Rattle.script_grammar.proofs.Steps.{mark_is, word_is, text_is, some_word_is, second_so}
 use Rattle.script_grammar.proofs.WordKinds.{letter_word}
-use Rattle.script_grammar.proofs.Local.{Reader, Local, local_done, local_refuse, local_to, local_value, local_if}
-use Rattle.script_grammar.proofs.LocalThen.{local_then, local_mark, local_word, local_map, local_behind, local_token}
-use Rattle.script_grammar.proofs.LocalLoops.{NotEmpty, IsLoop, local_loop}
-use Rattle.script_grammar.proofs.LocalOperands.{numeral_spelled, numeral_then}
-use Rattle.script_grammar.proofs.LocalExpressions.{no_mark}
+use Rattle.script_grammar.proofs.ByTokens.{Reader, Local, local_done, local_refuse, local_to, local_value, local_if}
+use Rattle.script_grammar.proofs.ByTokensInTurn.{local_then, local_mark, local_word, local_map, local_behind, local_token}
+use Rattle.script_grammar.proofs.LoopsByTokens.{NotEmpty, IsLoop, local_loop}
+use Rattle.script_grammar.proofs.OperandsByTokens.{numeral_spelled, numeral_then}
+use Rattle.script_grammar.proofs.ExpressionsByTokens.{no_mark}
 
 -- ---- remarks
 abbrev pub SpellsRemark : Remark → List Token → Type 0
 SpellsRemark r tokens = remark_tokens r ≡ tokens
 
+-- A remark is read, or refused, by its tokens.
 pub remark_local : {n : ℕ} → Local IsLate Remark n (λ i. begins_remark i ≡ true) remark_at SpellsRemark
 unfolding remark_at
 remark_local =
@@ -46,6 +47,7 @@ GoesRemarks y x tokens = flat_map remark_tokens x ≡ flat_map remark_tokens y +
 abbrev pub SpellsRemarks : List Remark → List Token → Type 0
 SpellsRemarks x tokens = flat_map remark_tokens x ≡ tokens
 
+-- The end begins no remark.
 pub no_remark : (i : Token) → is_last i ≡ true → begins_remark i ≡ false
 no_remark end h = refl
 no_remark cut h = refl
@@ -54,17 +56,21 @@ no_remark (word w) h = absurd cc
 no_remark (text w) h = refl
 no_remark (mark k) h = refl
 
+-- Remarks are read by a loop.
 pub remarks_loop : IsLoop (List Remark) Remark (List Remark) (λ y i. begins_remark i) (λ y. remark_at) (λ y r. y ++ r ∷ []) (λ y t. Ok (y, t)) remarks_at
 unfolding remarks_at
 remarks_loop = record { step = λ n y t. refl; base = λ y t h. refl; over = λ y i h. no_remark i h }
 
+-- A remark has tokens.
 pub remark_some : (r : Remark) → NotEmpty (remark_tokens r)
 remark_some option = tt
 remark_some library = tt
 
+-- The tokens of one more remark come last.
 pub remark_last : (y : List Remark) (r : Remark) → flat_map remark_tokens (y ++ r ∷ []) ≡ flat_map remark_tokens y ++ remark_tokens r
 remark_last y r = flat_map-append remark_tokens y (r ∷ []) ∙ ap (λ (z : List Token). flat_map remark_tokens y ++ z) (append-nil (remark_tokens r))
 
+-- Remarks are read, or refused, by their tokens.
 pub remarks_local : {n : ℕ} {W : Token → Type 0} → Local IsLate (List Remark) n W (λ t. remarks_at t.left [] t) SpellsRemarks
 remarks_local =
     local_loop _ (List Remark) Remark (List Remark) (λ y i. begins_remark i) (λ y. remark_at) (λ y r. y ++ r ∷ []) (λ y t. Ok (y, t)) remarks_at (λ y. Unit {0}) (λ y. SpellsRemark) GoesRemarks remarks_loop
@@ -84,9 +90,11 @@ a_name = 97 ∷ []
 abbrev pub SpellsName : List ℕ → List Token → Type 0
 SpellsName w tokens = (one (word w) ≡ tokens) × (is_named w ≡ true)
 
+-- A name is spelled by its token.
 pub name_spelled : (i : Token) → not (is_word i && is_named (word_of i)) ≡ false → SpellsName (word_of i) (one i)
 name_spelled i h = let p = and_parts (is_word i) (is_named (word_of i)) (not-false (is_word i && is_named (word_of i)) h) in (ap one (sym (some_word_is i p.0)), p.1)
 
+-- The ring's name is read, or refused, by its token.
 ring_name_local : {n : ℕ} {W : Token → Type 0} → Local IsLate (List ℕ) n W ring_name_at SpellsName
 unfolding ring_name_at
 ring_name_local =
@@ -94,10 +102,12 @@ ring_name_local =
     local_if (λ i. not (is_word i && is_named (word_of i))) (local_refuse (Expected whats.Name) some)
     (local_if (λ i. is_one_of keywords (word_of i)) (local_refuse NameClash some) (local_value word_of some (λ i w. name_spelled i w.0.1)))
 
+-- A number that is q above 1, or one that is above 1, is above 1.
 pub first_or : (b c : Bool) (q p : ℕ) → eqb q p ≡ b → 1 < q → (c ≡ true → 1 < p) → (b || c) ≡ true → 1 < p
 first_or true c q p e more on h = let same : q ≡ p = eqb-true q p e in omega arith
 first_or false c q p e more on h = on h
 
+-- A number among some that are above 1 is above 1.
 pub any_more : (qs : List ℕ) (p : ℕ) → list_all (λ q. nat_lt 1 q) qs ≡ true → list_any (λ q. eqb q p) qs ≡ true → 1 < p
 any_more [] p more h = absurd cc
 any_more (q ∷ qs) p more h =
@@ -107,9 +117,11 @@ any_more (q ∷ qs) p more h =
 abbrev SpellsPrime : List ℕ → List Token → Type 0
 SpellsPrime p tokens = (one (word p) ≡ tokens) × (is_numeral p ≡ true) × (1 < value_of p)
 
+-- the numeral 2
 two : List ℕ
 two = 50 ∷ []
 
+-- The characteristic is read, or refused, by its token, and is above 1.
 prime_local : {n : ℕ} {W : Token → Type 0} → Local IsLate (List ℕ) n W prime_at SpellsPrime
 unfolding prime_at two
 prime_local =
@@ -122,12 +134,14 @@ prime_local =
 abbrev SpellsLetter : ℕ → List Token → Type 0
 SpellsLetter l tokens = (one (word (l ∷ [])) ≡ tokens) × (is_letter l ≡ true)
 
+-- A letter is spelled by its token.
 letter_spelled : (i : Token) → not (is_word i && is_letter_word (word_of i)) ≡ false → SpellsLetter (letter_of (word_of i)) (one i)
 letter_spelled i h =
     let p = and_parts (is_word i) (is_letter_word (word_of i)) (not-false (is_word i && is_letter_word (word_of i)) h) in
     let l = letter_word (word_of i) p.1 in
     (ap (λ (w : List ℕ). one (word w)) (sym l.0) ∙ ap one (sym (some_word_is i p.0)), l.1)
 
+-- A variable is read, or refused, by its token.
 variable_local : {n : ℕ} {W : Token → Type 0} (ring letters : List ℕ) → Local IsLate ℕ n W (variable_at ring letters) SpellsLetter
 unfolding variable_at
 variable_local ring letters =
@@ -137,6 +151,7 @@ variable_local ring letters =
     (local_if (λ i. has_letter letters (letter_of (word_of i)) || is_same ring (word_of i)) (local_refuse NameClash some)
     (local_value (λ i. letter_of (word_of i)) some (λ i w. letter_spelled i w.0.0.1))))
 
+-- a comma and a letter
 abbrev pub comma_letter : ℕ → List Token
 comma_letter k = mark 44 ∷ one (word (k ∷ []))
 
@@ -147,12 +162,15 @@ CommaLetter l tokens = (comma_letter l ≡ tokens) × (is_letter l ≡ true)
 abbrev GoesLetters : List ℕ → List ℕ → List Token → Type 0
 GoesLetters y x tokens = (made : List ℕ) × (x ≡ y ++ made) × (flat_map comma_letter made ++ one (mark 41) ≡ tokens) × (list_all is_letter made ≡ true)
 
+-- the loop over letters, with a turn at least
 abbrev pub more_letters : List ℕ → ℕ → List ℕ → Reader (List ℕ)
 more_letters ring n y t = variables_at (suc n) ring y t
 
+-- the ) behind the letters
 abbrev pub last_letter : List ℕ → Reader (List ℕ)
 last_letter y t = cond (is_the_mark 41 t.token) (Ok (y, next t.rest)) (wanted t whats.Comma)
 
+-- Letters behind commas are read by a loop.
 pub letters_loop : (ring : List ℕ) → IsLoop (List ℕ) ℕ (List ℕ) (λ y i. is_the_mark 44 i) (λ y t. variable_at ring y (next t.rest)) (λ y l. y ++ l ∷ []) last_letter (more_letters ring)
 unfolding variables_at
 letters_loop ring = record {
@@ -161,6 +179,7 @@ letters_loop ring = record {
   over = λ y i h. no_mark 44 i h;
 }
 
+-- The loop over letters reads, or refuses, by the tokens.
 variables_local : {n : ℕ} {W : Token → Type 0} (ring : List ℕ) (y : List ℕ) → Local IsLate (List ℕ) n W (λ t. more_letters ring t.left y t) (GoesLetters y)
 variables_local ring y =
     local_loop _ (List ℕ) ℕ (List ℕ) (λ y i. is_the_mark 44 i) (λ y t. variable_at ring y (next t.rest)) (λ y l. y ++ l ∷ []) last_letter (more_letters ring) (λ y. Unit {0}) (λ y. CommaLetter) GoesLetters (letters_loop ring)
@@ -180,6 +199,7 @@ variables_local ring y =
 abbrev SpellsVariables : Variables → List Token → Type 0
 SpellsVariables v tokens = (variables_tokens v ≡ tokens) × (list_all is_letter (letters_of v) ≡ true)
 
+-- The variables are read, or refused, by their tokens.
 letters_local : {n : ℕ} {W : Token → Type 0} (ring : List ℕ) → Local IsLate Variables n W (letters_at ring) SpellsVariables
 unfolding letters_at
 letters_local ring =
@@ -195,6 +215,7 @@ letters_local ring =
 abbrev pub SpellsRing : Ring → List Token → Type 0
 SpellsRing r tokens = (ring_tokens r ≡ word (codes "ring") ∷ tokens) × FormedRing r × (1 < value_of r.prime)
 
+-- The ring statement is read, or refused, by its tokens.
 pub ring_local : {n : ℕ} {W : Token → Type 0} → Local IsLate Ring n W ring_at SpellsRing
 unfolding ring_at
 ring_local =

@@ -52,6 +52,7 @@ reads_by : {A : Type 0} {R S : Reader A} {N : A → List Token → Type 0} {t : 
     → ((s v : Place) → Placed s → Stand s r.tokens v → v.token ≡ u.token → S s ≡ Ok (x, v)) → ReadsSo A S N t x u
 reads_by r again = record { tokens = r.tokens; stand = r.stand; spells = r.spells; again = again }
 
+-- A reader that refuses the same refuses so for the same tokens.
 pub refuses_by : {P : ReadKind → List Token → Type 0} {A : Type 0} {R S : Reader A} {N : A → List Token → Type 0} {t : Place} {f : Refusal} (r : RefusesSo P A R N t f)
     → ((s p v : Place) → Placed s → Stand s r.before p → Stand p r.between v → v.token ≡ r.at.token → S s ≡ Err (refusal_at p r.kind)) → RefusesSo P A S N t f
 refuses_by r again = record {
@@ -73,9 +74,11 @@ pub same_head : (t s : Place) (tokens : List Token) (u v : Place) → Stand t to
 same_head t s [] u v p q e = ap (λ (x : Place). x.token) q ∙ e ∙ sym (ap (λ (x : Place). x.token) p)
 same_head t s (i ∷ tokens) u v p q e = q.0 ∙ sym p.0
 
+-- The first of the tokens of two stretches is the same where they stand with the same next one.
 same_front : (t s : Place) (a b : List Token) (m u k v : Place) → Stand t a m → Stand m b u → Stand s a k → Stand k b v → v.token ≡ u.token → s.token ≡ t.token
 same_front t s a b m u k v p q r st e = same_head t s (a ++ b) u v (Stand-then t a m b u p q) (Stand-then s a k b v r st) e
 
+-- What is read without a token depends on none.
 pub local_done : {P : ReadKind → List Token → Type 0} {A : Type 0} {n : ℕ} {W : Token → Type 0} {N : A → List Token → Type 0} (x : A) → N x [] → Local P A n W (λ t. Ok (x, t)) N
 local_done {P} {A} {n} {W} {N} x spelled = record {
   some = (x, [], spelled);
@@ -91,6 +94,7 @@ local_done {P} {A} {n} {W} {N} x spelled = record {
   refuses = λ t f le placed w e. absurd (never (x, t) f e);
 }
 
+-- What refuses each token refuses by that token.
 pub local_refuse : {P : ReadKind → List Token → Type 0} {A : Type 0} {n : ℕ} {W : Token → Type 0} {N : A → List Token → Type 0} (kind : ReadKind)
     → (x : A) × (tokens : List Token) × N x tokens → Local P A n W (λ t. refused t kind) N
 local_refuse {P} {A} {n} {W} {N} kind some = record {
@@ -118,6 +122,7 @@ pub local_where : {P : ReadKind → List Token → Type 0} {A : Type 0} {n : ℕ
     → Local P A n V R N → Local P A n W R N
 local_where to law = record { some = law.some; reads = λ t x u le placed w e. law.reads t x u le placed (to t.token w) e; refuses = λ t f le placed w e. law.refuses t f le placed (to t.token w) e }
 
+-- What spells M spells N, if M says N.
 pub local_to : {P : ReadKind → List Token → Type 0} {A : Type 0} {n : ℕ} {W : Token → Type 0} {R : Reader A} {M N : A → List Token → Type 0}
     → ((x : A) (a : List Token) → M x a → N x a) → Local P A n W R M → Local P A n W R N
 local_to to law = record {
@@ -200,10 +205,12 @@ if_true : {A : Type 0} (b : Bool) (x y : A) → b ≡ true → cond b x y ≡ x
 if_true true x y h = refl
 if_true false x y h = absurd cc
 
+-- A test that fails goes the second way.
 if_false : {A : Type 0} (b : Bool) (x y : A) → b ≡ false → cond b x y ≡ y
 if_false false x y h = refl
 if_false true x y h = absurd cc
 
+-- A test of the next token goes one of two ways by that token.
 pub local_if : {P : ReadKind → List Token → Type 0} {A : Type 0} {n : ℕ} {W : Token → Type 0} {N : A → List Token → Type 0} {R S : Reader A} (b : Token → Bool)
     → Local P A n (λ i. W i × (b i ≡ true)) R N → Local P A n (λ i. W i × (b i ≡ false)) S N
     → Local P A n W (λ t. cond (b t.token) (R t) (S t)) N

@@ -12,7 +12,7 @@ use Rattle.script_grammar.specs.Statements.{variables_at, letters_at, letters_of
 use Rattle.script_grammar.specs.Valid.{Stand, AreVariables, ValidRing}
 use Rattle.script_grammar.proofs.Steps.{ok_is, bind_ok, chosen, went_in, mark_is, Stand-then}
 use Rattle.script_grammar.proofs.Variables.{variables_more}
-use Rattle.script_grammar.proofs.FoundSteps.{mark_step, word_step, ring_name_step, prime_step, variable_step}
+use Rattle.script_grammar.proofs.StepsBehindRead.{mark_step, word_step, ring_name_step, prime_step, variable_step}
 
 -- a comma and a letter
 abbrev pub more_letter : ℕ → List Token
@@ -25,10 +25,12 @@ pub record LettersAre (ring done : List ℕ) (t : Place) (x : List ℕ × Place)
   pub valid : AreVariables ring x.0
   pub count : length x.0 ≤ 8
 
+-- Letters behind a comma and a letter are letters with that one before.
 letter_before : (ring done : List ℕ) (l : ℕ) (t : Place) (x : List ℕ × Place) → t.token ≡ mark 44 → (next t.rest).token ≡ word (l ∷ []) → LettersAre ring (done ++ l ∷ []) (next (next t.rest).rest) x → LettersAre ring done t x
 letter_before ring done l t x comma here h =
     record { letters = l ∷ h.letters; is = h.is ∙ append_assoc done (l ∷ []) h.letters; stand = (comma, (here, h.stand)); valid = h.valid; count = h.count }
 
+-- Letters that a loop reads in parentheses are variables, with those before, and at most 8.
 variables_found : (n : ℕ) (ring done : List ℕ) (t : Place) (x : List ℕ × Place) → AreVariables ring done → length done ≤ 8 → variables_at n ring done t ≡ Ok x → LettersAre ring done t x
 unfolding variables_at
 variables_found zero ring done t x valid few e = absurd cc
@@ -51,6 +53,7 @@ pub record VariablesAre (ring : List ℕ) (t : Place) (x : Variables × Place) :
   pub valid : AreVariables ring (letters_of x.0)
   pub count : length (letters_of x.0) ≤ 8
 
+-- The variables that are read stand there, differ from each other and from the ring's name, and are at most 8.
 pub letters_found : (ring : List ℕ) (t : Place) (x : Variables × Place) → letters_at ring t ≡ Ok x → VariablesAre ring t x
 unfolding letters_at
 letters_found ring t x e =
@@ -80,6 +83,7 @@ letters_found ring t x e =
 abbrev pub ring_tail : Ring → List Token
 ring_tail r = word r.name ∷ mark 61 ∷ word r.prime ∷ mark 44 ∷ (variables_tokens r.variables ++ (mark 44 ∷ word (codes "ds") ∷ one (mark 59)))
 
+-- The ring statement that is read stands there and is valid.
 pub ring_found : (t : Place) (x : Ring × Place) → ring_at t ≡ Ok x → Stand t (ring_tail x.0) x.1 × ValidRing x.0
 unfolding ring_at
 ring_found t x e =

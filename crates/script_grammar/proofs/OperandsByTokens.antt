@@ -15,15 +15,18 @@ use Rattle.script_grammar.specs.Steps.{◌>>=◌, refused, kind_at, numeral_at, 
 use Rattle.script_grammar.specs.Expressions.{Declarations, below_at, fraction_at, word_operand_at, operand_at}
 use Rattle.script_grammar.specs.Valid.{ValidOperand}
 use Rattle.script_grammar.proofs.Steps.{mark_is, some_word_is}
-use Rattle.script_grammar.proofs.Local.{Any, Local, local_done, local_refuse, local_where, local_same, local_next, local_cases, local_value, local_if}
-use Rattle.script_grammar.proofs.LocalThen.{local_behind, cond_bind}
+use Rattle.script_grammar.proofs.ByTokens.{Any, Local, local_done, local_refuse, local_where, local_same, local_next, local_cases, local_value, local_if}
+use Rattle.script_grammar.proofs.ByTokensInTurn.{local_behind, cond_bind}
 
+-- the numeral 0
 abbrev pub nil : List ℕ
 nil = 48 ∷ []
 
+-- the numeral 1
 abbrev pub unit : List ℕ
 unit = 49 ∷ []
 
+-- whether a token is a numeral
 abbrev pub numeral_token : Token → Bool
 numeral_token i = is_word i && is_numeral (word_of i)
 
@@ -33,9 +36,11 @@ SpellsNumeral w tokens = (one (word w) ≡ tokens) × (is_numeral w ≡ true)
 abbrev pub SpellsExponent : List ℕ → List Token → Type 0
 SpellsExponent w tokens = (one (word w) ≡ tokens) × (is_numeral w ≡ true) × (value_of w ≤ 1000)
 
+-- A numeral is spelled by its token.
 pub numeral_spelled : (i : Token) → numeral_token i ≡ true → SpellsNumeral (word_of i) (one i)
 numeral_spelled i h = let p = and_parts (is_word i) (is_numeral (word_of i)) h in (ap one (sym (some_word_is i p.0)), p.1)
 
+-- A numeral is read, or refused, by its token.
 pub numeral_local : {P : ReadKind → List Token → Type 0} {n : ℕ} {W : Token → Type 0} → Local P (List ℕ) n W numeral_at SpellsNumeral
 unfolding numeral_at
 numeral_local =
@@ -50,6 +55,7 @@ numeral_then S some law =
     local_same (λ t placed. cond_bind (numeral_token t.token) (word_of t.token, next t.rest) (record { left = t.left; kind = kind_at t.token (Expected whats.Numeral) }) (S t))
     (local_if numeral_token law (local_refuse (Expected whats.Numeral) some))
 
+-- An exponent is read, or refused, by its token.
 pub exponent_local : {P : ReadKind → List Token → Type 0} {n : ℕ} {W : Token → Type 0} → Local P (List ℕ) n W exponent_at SpellsExponent
 unfolding exponent_at
 exponent_local =
@@ -61,9 +67,11 @@ exponent_local =
 abbrev pub SpellsOperand : Declarations → ℕ → Operand → List Token → Type 0
 SpellsOperand known deep o tokens = (operand_tokens o ≡ tokens) × ValidOperand known deep o
 
+-- 1 isn't zero modulo a number above 1.
 one_some : (prime : ℕ) → 1 < prime → value_of unit % prime ≡ 0 → ⊥
 one_some prime more z = let same : 1 % prime ≡ 1 = mod-eq_of_lt more in absurd (omega (arith, same, z))
 
+-- What stands below / is read, or refused, by its token.
 below_local : {P : ReadKind → List Token → Type 0} {n : ℕ} {W : Token → Type 0} (known : Declarations) (deep : ℕ) (digits : List ℕ) → 1 < known.prime → is_numeral digits ≡ true
     → Local P Operand n W (below_at known digits) (λ o b. SpellsOperand known deep o (word digits ∷ mark 47 ∷ b))
 unfolding below_at operand_tokens
@@ -74,11 +82,13 @@ below_local known deep digits prime numeral =
     (local_value (λ i. fraction digits (word_of i)) some (λ i w.
     let s = numeral_spelled i w.0.1 in (ap (λ (x : List Token). word digits ∷ mark 47 ∷ x) s.0, (numeral, s.1, eqb-false (value_of (word_of i) % known.prime) 0 w.1)))))
 
+-- What is behind a numeral is read, or refused, by its tokens.
 fraction_local : {P : ReadKind → List Token → Type 0} {n : ℕ} {W : Token → Type 0} (known : Declarations) (deep : ℕ) (digits : List ℕ) → 1 < known.prime → is_numeral digits ≡ true
     → Local P Operand n W (fraction_at known digits) (λ o b. SpellsOperand known deep o (word digits ∷ b))
 unfolding fraction_at operand_tokens
 fraction_local known deep digits prime numeral = local_if (is_the_mark 47) (local_behind (mark 47) (λ i w. mark_is 47 i w.1) (below_local known deep digits prime numeral)) (local_done (number digits) (refl, numeral))
 
+-- A word that passes the tests for a short monomial is an operand.
 name_tests : (keyword numeral poly short large : Bool) → keyword ≡ false → numeral ≡ false → (poly ≡ true → ⊥) → not short ≡ false → large ≡ false
     → (not numeral && (not keyword && (poly || (short && not large)))) ≡ true
 name_tests keyword numeral poly true large p q r s u = rw (p, q, u) (or_true poly)
@@ -88,12 +98,15 @@ name_tests keyword numeral poly true large p q r s u = rw (p, q, u) (or_true pol
     or_true false = refl
 name_tests keyword numeral poly false large p q r s u = absurd cc
 
+-- A poly's name is an operand.
 poly_tests : (keyword numeral poly short large : Bool) → keyword ≡ false → numeral ≡ false → poly ≡ true → (not numeral && (not keyword && (poly || (short && not large)))) ≡ true
 poly_tests keyword numeral poly short large p q r = rw (p, q, r) refl
 
+-- No test comes out both ways.
 not_both : (b : Bool) → b ≡ false → b ≡ true → ⊥
 not_both b p q = cc
 
+-- A word as an operand is read, or refused, by its tokens.
 word_operand_local : {P : ReadKind → List Token → Type 0} {n : ℕ} (known : Declarations) (deep : ℕ) (w : List ℕ) → 1 < known.prime
     → Local P Operand n (λ i. i ≡ word w) (word_operand_at known w) (SpellsOperand known deep)
 unfolding word_operand_at operand_tokens
@@ -112,6 +125,7 @@ word_operand_local {P} {n} known deep w prime =
 abbrev pub InnerLocal : (ReadKind → List Token → Type 0) → (Place → Result (Sum × Place) Refusal) → Declarations → ℕ → Type 0
 InnerLocal P inner known deep = (n : ℕ) → Local P Operand n (λ i. is_the_mark 40 i ≡ true) (λ t. inner t >>= λ s. Ok (inside s.0, s.1)) (SpellsOperand known deep)
 
+-- An operand is read, or refused, by its tokens, and those before a refusal begin a valid one.
 pub operand_local : {P : ReadKind → List Token → Type 0} {n : ℕ} {W : Token → Type 0} (inner : Place → Result (Sum × Place) Refusal) (known : Declarations) (deep : ℕ)
     → 1 < known.prime → InnerLocal P inner known deep → Local P Operand n W (operand_at inner known) (SpellsOperand known deep)
 unfolding operand_at operand_tokens

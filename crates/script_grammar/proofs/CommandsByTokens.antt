@@ -17,23 +17,27 @@ use Rattle.script_grammar.specs.Formed.{FormedStatement}
 use Rattle.script_grammar.specs.First.{IsLate}
 use Rattle.script_grammar.proofs.Steps.{word_is}
 use Rattle.script_grammar.proofs.WordKinds.{command_of_is}
-use Rattle.script_grammar.proofs.Local.{Reader, Local, local_done, local_refuse, local_where, local_cases, local_if}
-use Rattle.script_grammar.proofs.LocalThen.{local_then, local_mark, local_map, local_behind}
-use Rattle.script_grammar.proofs.LocalRing.{a_name, remark_local}
-use Rattle.script_grammar.proofs.LocalMembers.{Follows, name_among_local, argument_local, poly_local, ideal_local}
+use Rattle.script_grammar.proofs.ByTokens.{Reader, Local, local_done, local_refuse, local_where, local_cases, local_if}
+use Rattle.script_grammar.proofs.ByTokensInTurn.{local_then, local_mark, local_map, local_behind}
+use Rattle.script_grammar.proofs.RingByTokens.{a_name, remark_local}
+use Rattle.script_grammar.proofs.IdealsByTokens.{Follows, name_among_local, argument_local, poly_local, ideal_local}
 
+-- A command on a polynomial is read, or refused, by its tokens.
 on_poly_local : {n : ℕ} {W : Token → Type 0} (known : Declarations) (w : Word)
     → Local IsLate Statement n W (λ t. argument_at known.polys t >>= λ name. mark_at 59 whats.Semicolon name.1 >>= λ after. Ok (command w name.0, after)) (Follows (command_word w))
 on_poly_local known w =
     local_then _ (argument_local known.polys) (λ name a l. local_mark 59 whats.Semicolon
     (local_done (command w name) (ap (λ (z : List Token). word (command_word w) ∷ (z ++ one (mark 59))) l.0, l.1)))
 
+-- what is read behind std in a command
 abbrev within_std : Declarations → Word → Reader Statement
 within_std known w t = argument_at known.ideals t >>= λ name. mark_at 41 whats.Close name.1 >>= λ closed. mark_at 59 whats.Semicolon closed >>= λ after. Ok (command_std w name.0, after)
 
+-- what is read in a command on a name alone
 abbrev plainly : Declarations → Word → Reader Statement
 plainly known w t = name_among known.ideals t >>= λ name. mark_at 41 whats.Close name.1 >>= λ closed. mark_at 59 whats.Semicolon closed >>= λ after. Ok (command w name.0, after)
 
+-- A command on an ideal is read, or refused, by its tokens.
 on_ideal_local : {n : ℕ} {W : Token → Type 0} (known : Declarations) (w : Word) → is_on_poly w ≡ false
     → Local IsLate Statement n W (λ t. mark_at 40 whats.Open t >>= λ opened. cond (is_the_word (codes "std") opened.token) (within_std known w (next opened.rest)) (plainly known w opened)) (Follows (command_word w))
 on_ideal_local known w kind =
@@ -44,6 +48,7 @@ on_ideal_local known w kind =
     (local_then _ (name_among_local known.ideals) (λ name a l. local_mark 41 whats.Close (local_mark 59 whats.Semicolon
     (local_done (command w name) (ap (λ (z : List Token). word (command_word w) ∷ mark 40 ∷ (z ++ mark 41 ∷ one (mark 59))) l.0, l.1))))))
 
+-- A command is read, or refused, by its tokens.
 command_local : {n : ℕ} {W : Token → Type 0} (known : Declarations) (w : Word) → Local IsLate Statement n W (command_at known w) (Follows (command_word w))
 unfolding command_at
 command_local {n} {W} known w = by_word (is_on_poly w) refl
@@ -61,12 +66,14 @@ SpellsStatement s tokens = (statement_tokens s ≡ tokens) × FormedStatement s
 pub some_statement : (s : Statement) × (tokens : List Token) × SpellsStatement s tokens
 some_statement = (command Std a_name, statement_tokens (command Std a_name), (refl, refl))
 
+-- What stands where a statement must begin is a command, or refused, by its tokens.
 from_local : {n : ℕ} (known : Declarations) (count : ℕ) (i : Token) (o : Option Word) → command_of i ≡ o → Local IsLate Statement n (λ j. j ≡ i) (λ t. command_from known count t o) SpellsStatement
 from_local known count i None e = local_refuse (Expected whats.Statement) some_statement
 from_local known count i (Some c) e =
     local_if (λ j. eqb count 64) (local_refuse TooManyCommands some_statement)
     (local_behind (word (command_word c)) (λ j h. h.0 ∙ command_of_is i c e) (command_local known c))
 
+-- A statement is read, or refused, by its tokens.
 pub statement_local : {n : ℕ} {W : Token → Type 0} (known : Declarations) (count : ℕ) → 1 < known.prime → Local IsLate Statement n W (statement_at known count) SpellsStatement
 unfolding statement_at
 statement_local known count prime =

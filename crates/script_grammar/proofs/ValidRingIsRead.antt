@@ -14,12 +14,14 @@ use Rattle.script_grammar.specs.Places.{Placed}
 use Rattle.script_grammar.proofs.Steps.{Stand-split}
 use Rattle.script_grammar.proofs.Places.{behind_mark, next_placed}
 use Rattle.script_grammar.proofs.Variables.{variables_parts}
-use Rattle.script_grammar.proofs.FoundRing.{more_letter, ring_tail}
-use Rattle.script_grammar.proofs.OnlySteps.{on_then, off_then, read_then, mark_then, word_then, ring_name_then, prime_then, variable_then}
+use Rattle.script_grammar.proofs.ReadRingIsValid.{more_letter, ring_tail}
+use Rattle.script_grammar.proofs.StepsAreRead.{on_then, off_then, read_then, mark_then, word_then, ring_name_then, prime_then, variable_then}
 
+-- Of at most 8 letters fewer than 8 stand before one of them.
 few_before : (done : List ℕ) (k : ℕ) (more : List ℕ) → length (done ++ k ∷ more) ≤ 8 → eqb (length done) 8 ≡ false
 few_before done k more h = ne_eqb (length done) 8 (λ e. absurd (omega (arith, length-append done (k ∷ more))))
 
+-- Valid letters that stand in parentheses are read up to the ).
 variables_again : (n : ℕ) (ring done : List ℕ) (t : Place) (letters : List ℕ) (u : Place) → Placed t → t.left < n → AreVariables ring (done ++ letters) → length (done ++ letters) ≤ 8
     → Stand t (flat_map more_letter letters ++ one (mark 41)) u → variables_at n ring done t ≡ Ok (done ++ letters, u)
 unfolding variables_at
@@ -36,6 +38,7 @@ variables_again (suc n) ring done t (k ∷ letters) u placed room valid few p =
     on_then (is_the_mark 44 t.token) _ _ _ (ap (is_the_mark 44) p.0)
     (variable_then ring done k (next t.rest) _ _ p.1.0 v.0 (few_before done k letters few) v.1 v.2 (on ∙ ap (λ (l : List ℕ). Ok (l, u)) regrouped))
 
+-- Valid variables that stand there are read.
 letters_again : (ring : List ℕ) (t : Place) (v : Variables) (u : Place) → AreVariables ring (letters_of v) → length (letters_of v) ≤ 8 → Stand t (variables_tokens v) u → letters_at ring t ≡ Ok (v, u)
 unfolding letters_at
 letters_again ring t (alone l) u valid few p =
@@ -47,6 +50,7 @@ letters_again ring t (listed l letters) u valid few p =
     on_then (is_the_mark 40 t.token) _ _ _ (ap (is_the_mark 40) p.0)
     (variable_then ring [] l (next t.rest) _ _ p.1.0 valid.0 refl refl valid.2 (read_then _ _ (l ∷ letters, u) _ on refl))
 
+-- The valid ring statement is read from behind its word on.
 pub ring_again : (t : Place) (r : Ring) (u : Place) → ValidRing r → Stand t (ring_tail r) u → ring_at t ≡ Ok (r, u)
 unfolding ring_at
 ring_again t r u valid p =

@@ -9,11 +9,12 @@ use Rattle.script_grammar.specs.Trees.{Factor, factor_tokens, Monomial, factor, 
 use Rattle.script_grammar.specs.Statements.{factor_at, factors_at, degree_of, noether_at}
 use Rattle.script_grammar.specs.Valid.{Stand, ValidFactor, ValidFactors, ValidNoether}
 use Rattle.script_grammar.proofs.Steps.{ok_is, bind_ok, chosen, went_on, mark_is, some_word_is, Stand-then}
-use Rattle.script_grammar.proofs.FoundSteps.{mark_step, exponent_step}
+use Rattle.script_grammar.proofs.StepsBehindRead.{mark_step, exponent_step}
 
 abbrev FactorIs : List ℕ → Place → Factor × Place → Type 0
 FactorIs letters t x = Stand t (factor_tokens x.0) x.1 × ValidFactor letters x.0
 
+-- A factor that is read stands there, in variables of the ring and without an exponent above 1,000.
 pub factor_found : (letters : List ℕ) (t : Place) (x : Factor × Place) → factor_at letters t ≡ Ok x → FactorIs letters t x
 unfolding factor_at
 factor_found letters t x e =
@@ -38,6 +39,7 @@ factor_found letters t x e =
 abbrev MonomialIs : List ℕ → Place → Monomial × Place → Type 0
 MonomialIs letters t x = Stand t (monomial_tokens x.0) x.1 × ValidFactors letters x.0
 
+-- Factors that a loop reads are valid with those before.
 pub factors_found : (letters : List ℕ) (start : Place) (n : ℕ) (m : Monomial) (t : Place) (x : Monomial × Place) → MonomialIs letters start (m, t) → factors_at n letters m t ≡ Ok x → MonomialIs letters start x
 unfolding factors_at
 factors_found letters start zero m t x so_far e = subst (λ (y : Monomial × Place). MonomialIs letters start y) (ok_is (m, t) x e) so_far
@@ -55,15 +57,16 @@ factors_found letters start (suc n) m t x so_far e =
 abbrev pub noether_tail : Monomial → List Token
 noether_tail m = mark 61 ∷ (monomial_tokens m ++ one (mark 59))
 
+-- The noether statement that is read stands there, and its monomial has a degree from 1 to 255 and at most 4,096 monomials.
 pub noether_found : (letters : List ℕ) (t : Place) (x : Monomial × Place) → noether_at letters t ≡ Ok x → Stand t (noether_tail x.0) x.1 × ValidNoether letters x.0
 unfolding noether_at
 noether_found letters t x e =
     let equals = mark_step _ _ _ _ _ e in
     let start = next t.rest in
-    let first = bind_ok _ _ _ equals.1 in
+    let all = bind_ok _ _ _ equals.1 in
+    let first = bind_ok (factor_at letters start) _ all.0 all.1 in
     let f = factor_found letters start first.0 first.1 in
-    let all = bind_ok _ _ _ first.2 in
-    let m = factors_found letters start _ (factor first.0.0) first.0.1 all.0 f all.1 in
+    let m = factors_found letters start _ (factor first.0.0) first.0.1 all.0 f first.2 in
     let d = degree_of all.0.0 in
     let degree = went_on (eqb d 0 || nat_lt 255 d) _ _ x all.2 in
     let count = went_on (nat_lt 4096 (monomial_count (length letters) d)) _ _ x degree.1 in

@@ -17,7 +17,7 @@ use Rattle.script_grammar.specs.Statements.{ring_name_at, prime_at, variable_at,
 use Rattle.script_grammar.specs.Valid.{IsNew, IsOneOf}
 use Rattle.script_grammar.proofs.Steps.{refusal, bind_ok, mark_is, word_is, text_is, some_word_is}
 use Rattle.script_grammar.proofs.WordKinds.{letter_word}
-use Rattle.script_grammar.proofs.FoundTokens.{numeral_found, exponent_found}
+use Rattle.script_grammar.proofs.ReadTokensStand.{numeral_found, exponent_found}
 
 -- a test that must come out true
 pub taken : {A B : Type 0} (b : Bool) (d : Refusal) (r : Result A Refusal) (f : A → Result B Refusal) (y : B) → (cond b r (Err d) >>= f) ≡ Ok y → (b ≡ true) × ((r >>= f) ≡ Ok y)
@@ -29,12 +29,14 @@ pub passed : {A B : Type 0} (b : Bool) (d : Refusal) (r : Result A Refusal) (f :
 passed true d r f y e = absurd cc
 passed false d r f y e = (refl, e)
 
+-- What reads on behind a mark that must stand has found the mark.
 pub mark_step : {B : Type 0} (m : ℕ) (what : What) (t : Place) (f : Place → Result B Refusal) (y : B) → (mark_at m what t >>= f) ≡ Ok y → (t.token ≡ mark m) × (f (next t.rest) ≡ Ok y)
 unfolding mark_at
 mark_step m what t f y e =
     let g = taken (is_the_mark m t.token) _ (Ok (next t.rest)) f y e in
     (mark_is m t.token g.0, g.1)
 
+-- What reads on behind a word that must stand has found the word.
 pub word_step : {B : Type 0} (w : List ℕ) (what : What) (t : Place) (f : Place → Result B Refusal) (y : B) → (word_at w what t >>= f) ≡ Ok y → (t.token ≡ word w) × (f (next t.rest) ≡ Ok y)
 unfolding word_at
 word_step w what t f y e =
@@ -45,12 +47,14 @@ word_step w what t f y e =
 moved : {B : Type 0} (t : Place) (f : List ℕ × Place → Result B Refusal) (n : List ℕ × Place) (y : B) → next t.rest ≡ n.1 → f n ≡ Ok y → f (n.0, next t.rest) ≡ Ok y
 moved t f n y e h = subst (λ (u : Place). f (n.0, u) ≡ Ok y) (sym e) h
 
+-- What reads on behind a numeral has found one.
 pub numeral_step : {B : Type 0} (t : Place) (f : List ℕ × Place → Result B Refusal) (y : B) → (numeral_at t >>= f) ≡ Ok y → (w : List ℕ) × (t.token ≡ word w) × (is_numeral w ≡ true) × (f (w, next t.rest) ≡ Ok y)
 numeral_step t f y e =
     let a = bind_ok (numeral_at t) f y e in
     let n = numeral_found t a.0 a.1 in
     (a.0.0, n.0, n.1, moved t f a.0 y n.2 a.2)
 
+-- What reads on behind an exponent has found a numeral of at most 1,000.
 pub exponent_step : {B : Type 0} (t : Place) (f : List ℕ × Place → Result B Refusal) (y : B) → (exponent_at t >>= f) ≡ Ok y
     → (w : List ℕ) × (t.token ≡ word w) × (is_numeral w ≡ true) × (value_of w ≤ 1000) × (f (w, next t.rest) ≡ Ok y)
 exponent_step t f y e =
@@ -58,6 +62,7 @@ exponent_step t f y e =
     let n = exponent_found t a.0 a.1 in
     (a.0.0, n.0, n.1, n.2, moved t f a.0 y n.3 a.2)
 
+-- What reads on behind the ring's name has found a name that is no keyword.
 pub ring_name_step : {B : Type 0} (t : Place) (f : List ℕ × Place → Result B Refusal) (y : B) → (ring_name_at t >>= f) ≡ Ok y
     → (w : List ℕ) × (t.token ≡ word w) × (is_named w ≡ true) × (is_one_of keywords w ≡ false) × (f (w, next t.rest) ≡ Ok y)
 unfolding ring_name_at
@@ -68,9 +73,11 @@ ring_name_step t f y e =
     let p = and_parts (is_word t.token) (is_named w) (not-false _ a.0) in
     (w, some_word_is t.token p.0, p.1, b.0, b.1)
 
+-- A number that is tested to be one of the table is in the table.
 in_table : (n : ℕ) → list_any (λ q. eqb q n) table ≡ true → InTable n
 in_table n h = Contains-from_any {eq = λ k q. eqb q k} (λ x y e. sym (eqb-true y x e)) n table h
 
+-- What reads on behind the characteristic has found a numeral of the table.
 pub prime_step : {B : Type 0} (t : Place) (f : List ℕ × Place → Result B Refusal) (y : B) → (prime_at t >>= f) ≡ Ok y
     → (w : List ℕ) × (t.token ≡ word w) × (is_numeral w ≡ true) × InTable (value_of w) × (f (w, next t.rest) ≡ Ok y)
 unfolding prime_at
@@ -82,6 +89,7 @@ prime_step t f y e =
     let g = taken (list_any (λ q. eqb q (value_of n.0)) table) _ (Ok x) f y back in
     (n.0, n.1, n.2, in_table (value_of n.0) g.0, g.1)
 
+-- What reads on behind a variable has found a letter that is free, behind fewer than 8.
 pub variable_step : {B : Type 0} (ring letters : List ℕ) (t : Place) (f : ℕ × Place → Result B Refusal) (y : B) → (variable_at ring letters t >>= f) ≡ Ok y
     → (l : ℕ) × (t.token ≡ word (l ∷ [])) × (is_letter l ≡ true) × (eqb (length letters) 8 ≡ false) × (has_letter letters l ≡ false) × (is_same ring (l ∷ []) ≡ false) × (f (l, next t.rest) ≡ Ok y)
 unfolding variable_at
@@ -96,6 +104,7 @@ variable_step ring letters t f y e =
     let free = or_parts (has_letter letters l) (is_same ring w) c.0 in
     (l, some_word_is t.token p.0 ∙ ap (λ (v : List ℕ). word v) one.0, one.1, b.0, free.0, sym (ap (is_same ring) one.0) ∙ free.1, c.1)
 
+-- What reads on behind a name that is declared has found one that is new.
 pub new_name_step : {B : Type 0} (known : Declarations) (t : Place) (f : List ℕ × Place → Result B Refusal) (y : B) → (new_name_at known t >>= f) ≡ Ok y
     → (w : List ℕ) × (t.token ≡ word w) × IsNew known w × (f (w, next t.rest) ≡ Ok y)
 unfolding new_name_at
@@ -108,6 +117,7 @@ new_name_step known t f y e =
     let p = and_parts (is_word t.token) (is_named w) (not-false _ a.0) in
     (w, some_word_is t.token p.0, record { named = p.1; free = b.0; room = leb-false 64 n c.0 }, c.1)
 
+-- What reads on behind the name of something declared has found one of those names.
 pub name_among_step : {B : Type 0} (names : List (List ℕ)) (t : Place) (f : List ℕ × Place → Result B Refusal) (y : B) → (name_among names t >>= f) ≡ Ok y
     → (w : List ℕ) × (t.token ≡ word w) × IsOneOf names w × (f (w, next t.rest) ≡ Ok y)
 unfolding name_among
