@@ -20,7 +20,7 @@ use Rattle.script_grammar.specs.First.{refusal_at}
 use Rattle.script_grammar.specs.Spots.{a_factor, an_exponent, behind_monomial, Behind, BeforeNoether, InNoether, BeforeFactor, Here, of_noether}
 use Rattle.script_grammar.specs.Causes.{is_name, ends_in_letter, IsWholeMonomial, IsLateCause}
 use Rattle.script_grammar.proofs.Places.{next_placed, stand_placed, behind_mark}
-use Rattle.script_grammar.proofs.Steps.{ok_is, bind_err, chosen, went_on, err_is, never, mark_is, some_word_is}
+use Rattle.script_grammar.proofs.Steps.{ok_is, bind_ok, bind_err, chosen, went_on, err_is, never, mark_is, some_word_is}
 use Rattle.script_grammar.proofs.StepsBehindRead.{exponent_step}
 use Rattle.script_grammar.proofs.ReadNoetherIsValid.{factor_found}
 use Rattle.script_grammar.proofs.TreeTokens.{AreTokens-factor}
