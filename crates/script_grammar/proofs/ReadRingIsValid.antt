@@ -8,7 +8,7 @@ use Rattle.std.specs.List.{flat_map}
 use Rattle.script_grammar.specs.Tokens.{Token, Place, next, word, mark}
 use Rattle.script_grammar.specs.Words.{is_the_mark}
 use Rattle.script_grammar.specs.Trees.{Variables, alone, listed, variables_tokens, Ring, one}
-use Rattle.script_grammar.specs.Statements.{variables_at, letters_at, letters_of, tail_of, ring_at}
+use Rattle.script_grammar.specs.Statements.{variables_at, listed_at, listed_letters, letters_at, letters_of, ring_at}
 use Rattle.script_grammar.specs.Valid.{Stand, AreVariables, ValidRing}
 use Rattle.script_grammar.proofs.Steps.{ok_is, bind_ok, chosen, went_in, mark_is, Stand-then}
 use Rattle.script_grammar.proofs.Variables.{variables_more}
@@ -60,14 +60,13 @@ letters_found ring t x e =
     let branch = chosen (is_the_mark 40 t.token) _ _ _ e in
     elim branch [
       | inl yea ↦
-          let a = variable_step ring [] _ _ _ yea.1 in
-          let b = bind_ok _ _ _ a.6 in
-          let h = variables_found _ ring (a.0 ∷ []) _ b.0 (a.2, refl, a.5, tt) (omega arith) b.1 in
-          let made : Variables × Place = (listed a.0 (tail_of b.0.0), b.0.1) in
+          let b = bind_ok (listed_at ring (next t.rest)) _ x yea.1 in
+          let a = variable_step ring [] (next t.rest) _ b.0 b.1 in
+          let h = variables_found _ ring (a.0 ∷ []) _ b.0 (a.2, refl, a.5, tt) (omega arith) a.6 in
+          let made : Variables × Place = (listed_letters b.0.0, b.0.1) in
           let is : b.0.0 ≡ a.0 ∷ h.letters = h.is in
-          let tail : tail_of b.0.0 ≡ h.letters = ap tail_of is in
           subst (λ (y : Variables × Place). VariablesAre ring t y) (ok_is made x b.2)
-          (subst (λ (letters : List ℕ). VariablesAre ring t (listed a.0 letters, b.0.1)) (sym tail)
+          (subst (λ (letters : List ℕ). VariablesAre ring t (listed_letters letters, b.0.1)) (sym is)
           (record {
             stand = (mark_is 40 t.token yea.0, (a.1, h.stand));
             valid = subst (λ (letters : List ℕ). AreVariables ring letters) is h.valid;

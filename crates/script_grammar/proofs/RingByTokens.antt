@@ -14,7 +14,7 @@ use Rattle.script_grammar.specs.Tokens.{is_letter, Token, next, mark, word, text
 use Rattle.script_grammar.specs.Words.{is_numeral, is_same, is_one_of, keywords, is_named, has_letter, is_the_mark, is_the_word, is_the_text, is_word, word_of}
 use Rattle.script_grammar.specs.Trees.{Remark, option, library, remark_tokens, Variables, alone, listed, variables_tokens, Ring, ring_tokens, one}
 use Rattle.script_grammar.specs.Steps.{◌>>=◌, refused, wanted}
-use Rattle.script_grammar.specs.Statements.{begins_remark, remark_at, remarks_at, ring_name_at, prime_at, letter_of, is_letter_word, variable_at, variables_at, tail_of, letters_at, ring_at, letters_of}
+use Rattle.script_grammar.specs.Statements.{begins_remark, remark_at, remarks_at, ring_name_at, prime_at, letter_of, is_letter_word, variable_at, variables_at, listed_at, listed_letters, letters_at, ring_at, letters_of}
 use Rattle.script_grammar.specs.Formed.{FormedRing}
 use Rattle.script_grammar.specs.First.{IsLate}
 use Rattle.script_grammar.specs.Places.{is_last}
@@ -199,17 +199,24 @@ variables_local ring y =
 abbrev SpellsVariables : Variables → List Token → Type 0
 SpellsVariables v tokens = (variables_tokens v ≡ tokens) × (list_all is_letter (letters_of v) ≡ true)
 
+-- letters up to the ), of which there are some
+abbrev SpellsListed : List ℕ → List Token → Type 0
+SpellsListed all tokens =
+    (first : ℕ) × (others : List ℕ) × (all ≡ first ∷ others) × (word (first ∷ []) ∷ (flat_map comma_letter others ++ one (mark 41)) ≡ tokens) × (is_letter first ≡ true) × (list_all is_letter others ≡ true)
+
+-- Letters in parentheses are read, or refused, by their tokens.
+listed_local : {n : ℕ} {W : Token → Type 0} (ring : List ℕ) → Local IsLate (List ℕ) n W (listed_at ring) SpellsListed
+listed_local ring =
+    local_then _ (variable_local ring []) (λ first a l.
+    local_to (λ all b s. (first, s.0, s.1, ap (λ (z : List Token). word (first ∷ []) ∷ z) s.2 ∙ ap (λ (z : List Token). z ++ b) l.0, l.1, s.3)) (variables_local ring (first ∷ [])))
+
 -- The variables are read, or refused, by their tokens.
 letters_local : {n : ℕ} {W : Token → Type 0} (ring : List ℕ) → Local IsLate Variables n W (letters_at ring) SpellsVariables
 unfolding letters_at
 letters_local ring =
     local_if (is_the_mark 40)
-    (local_behind (mark 40) (λ i w. mark_is 40 i w.1) (local_then _ (variable_local ring []) (λ first a l.
-    local_map (λ all. listed first (tail_of all)) (variables_local ring (first ∷ [])) (λ all b s.
-    let same : tail_of all ≡ s.0 = ap tail_of s.1 in (
-      ap (λ (z : List ℕ). mark 40 ∷ word (first ∷ []) ∷ (flat_map comma_letter z ++ one (mark 41))) same ∙ ap (λ (z : List Token). mark 40 ∷ word (first ∷ []) ∷ z) s.2 ∙ ap (λ (z : List Token). mark 40 ∷ (z ++ b)) l.0,
-      and_from (is_letter first) (list_all is_letter (tail_of all)) l.1 (subst (λ (z : List ℕ). list_all is_letter z ≡ true) (sym same) s.3),
-    )))))
+    (local_behind (mark 40) (λ i w. mark_is 40 i w.1) (local_map listed_letters (listed_local ring) (λ all a l.
+    subst (λ (letters : List ℕ). SpellsVariables (listed_letters letters) (mark 40 ∷ a)) (sym l.2) (ap (λ (z : List Token). mark 40 ∷ z) l.3, and_from (is_letter l.0) (list_all is_letter l.1) l.4 l.5))))
     (local_map alone (variable_local ring []) (λ l a s. (s.0, and_from (is_letter l) true s.1 refl)))
 
 abbrev pub SpellsRing : Ring → List Token → Type 0

@@ -16,7 +16,7 @@ use Rattle.script_grammar.specs.Words.{is_numeral, is_same, is_one_of, keywords,
 use Rattle.script_grammar.specs.Trees.{Variables, variables_tokens, Ring, one}
 use Rattle.script_grammar.specs.Steps.{◌>>=◌, mark_at, word_at, numeral_at}
 use Rattle.script_grammar.specs.Expressions.{Declarations}
-use Rattle.script_grammar.specs.Statements.{ring_name_at, prime_at, letter_of, variable_at, variables_at, letters_at, ring_at, letters_of}
+use Rattle.script_grammar.specs.Statements.{ring_name_at, prime_at, letter_of, variable_at, variables_at, letters_at, ring_at, letters_of, listed_at}
 use Rattle.script_grammar.specs.Places.{Placed}
 use Rattle.script_grammar.specs.Valid.{Stand, AreVariables}
 use Rattle.script_grammar.specs.Spots.{the_ring_name, the_characteristic, a_variable, behind_variable, Behind, BeforeRing, InRing, letters_then, then_letters, Here, of_ring_name, of_characteristic, of_variables}
@@ -197,7 +197,9 @@ module _ (s : Place) where
     | inl opened ↦
         let d = c ++ one (mark 40) in
         let st-1 = Leads-then s c t (one (mark 40)) (next t.rest) st (mark_is 40 t.token opened.0, refl) (tt, tt) in
-        elim (bind_err (variable_at name [] (next t.rest)) _ f opened.1) [
+        elim (bind_err (listed_at name (next t.rest)) _ f opened.1) [
+          | inr all ↦ absurd (never _ f all.2)
+          | inl inside ↦ elim (bind_err (variable_at name [] (next t.rest)) _ f inside) [
           | inl early ↦ variable_caused name [] (value_of p) d (next t.rest) f st-1 (inr (in_begun name p [] c (one (mark 40)) b (omega arith) tt)) (omega arith) early
           | inr late ↦
               let a = variable_step name [] (next t.rest) (λ x. Ok x) late.0 (ap (λ (r : Result (ℕ × Place) Refusal). r >>= λ x. Ok x) late.1) in
@@ -205,10 +207,8 @@ module _ (s : Place) where
               let same : late.0 ≡ (a.0, u) = sym (ok_is (a.0, u) late.0 a.6) in
               let to_u : Leads s (c ++ (mark 40 ∷ one (word (a.0 ∷ [])))) u = Leads-then s c t (mark 40 ∷ one (word (a.0 ∷ []))) u st (mark_is 40 t.token opened.0, (a.1, refl)) (tt, (tt, tt)) in
               let k : Lettered name p c (a.0 ∷ []) u = record { first = a.0; others = []; is = refl; leads = to_u; few = omega arith; are = (a.2, refl, a.5, tt) } in
-              elim (bind_err (variables_at (suc late.0.1.left) name (late.0.0 ∷ []) late.0.1) _ f late.2) [
-                | inl more ↦ letters_caused name p c (a.0 ∷ []) u f b k (next_placed (next t.rest).rest) (sym (ap (λ (x : ℕ × Place). variables_at (suc x.1.left) name (x.0 ∷ []) x.1) same) ∙ more)
-                | inr all ↦ absurd (never _ f all.2)
-              ]
+              letters_caused name p c (a.0 ∷ []) u f b k (next_placed (next t.rest).rest) (sym (ap (λ (x : ℕ × Place). variables_at (suc x.1.left) name (x.0 ∷ []) x.1) same) ∙ late.2)
+          ]
         ]
     | inr nay ↦ elim (bind_err (variable_at name [] t) _ f nay.1) [
       | inl early ↦ variable_caused name [] (value_of p) c t f st (inl (refl, (subst (λ (x : List Token). InRing (in_ring name (value_of p) []) [] x) (append-nil c) (in_begun name p [] c [] b (omega arith) tt)))) (omega arith) early

@@ -8,7 +8,7 @@ use Rattle.std.specs.List.{flat_map}
 use Rattle.script_grammar.specs.Tokens.{Place, next, word, mark}
 use Rattle.script_grammar.specs.Words.{is_the_mark}
 use Rattle.script_grammar.specs.Trees.{Variables, alone, listed, variables_tokens, Ring, one}
-use Rattle.script_grammar.specs.Statements.{variables_at, letters_at, letters_of, ring_at}
+use Rattle.script_grammar.specs.Statements.{variables_at, letters_at, letters_of, ring_at, listed_at}
 use Rattle.script_grammar.specs.Valid.{Stand, AreVariables, ValidRing}
 use Rattle.script_grammar.specs.Places.{Placed}
 use Rattle.script_grammar.proofs.Steps.{Stand-split}
@@ -48,7 +48,7 @@ letters_again ring t (listed l letters) u valid few p =
     let first = next (next t.rest).rest in
     let on = variables_again (suc first.left) ring (l ∷ []) first letters u (next_placed (next t.rest).rest) (omega arith) valid few p.1.1 in
     on_then (is_the_mark 40 t.token) _ _ _ (ap (is_the_mark 40) p.0)
-    (variable_then ring [] l (next t.rest) _ _ p.1.0 valid.0 refl refl valid.2 (read_then _ _ (l ∷ letters, u) _ on refl))
+    (read_then (listed_at ring (next t.rest)) _ (l ∷ letters, u) _ (variable_then ring [] l (next t.rest) _ _ p.1.0 valid.0 refl refl valid.2 on) refl)
 
 -- The valid ring statement is read from behind its word on.
 pub ring_again : (t : Place) (r : Ring) (u : Place) → ValidRing r → Stand t (ring_tail r) u → ring_at t ≡ Ok (r, u)

@@ -86,12 +86,19 @@ abbrev pub tail_of : List ℕ → List ℕ
 tail_of [] = []
 tail_of (b ∷ w) = w
 
+-- letters in parentheses, from behind the ( on
+abbrev pub listed_at : List ℕ → Place → Result (List ℕ × Place) Refusal
+listed_at ring t = do
+  first ← variable_at ring [] t
+  variables_at (suc first.1.left) ring (first.0 ∷ []) first.1
+
+-- letters as they are listed
+abbrev pub listed_letters : List ℕ → Variables
+listed_letters letters = listed (letter_of letters) (tail_of letters)
+
 unfoldable pub letters_at : List ℕ → Place → Result (Variables × Place) Refusal
 letters_at ring t =
-    if is_the_mark 40 t.token then (do
-      first ← variable_at ring [] (next t.rest)
-      all ← variables_at (suc first.1.left) ring (first.0 ∷ []) first.1
-      Ok (listed first.0 (tail_of all.0), all.1))
+    if is_the_mark 40 t.token then (listed_at ring (next t.rest) >>= λ all. Ok (listed_letters all.0, all.1))
     else (variable_at ring [] t >>= λ l. Ok (alone l.0, l.1))
 
 -- from behind the word ring on
