@@ -15,30 +15,18 @@ use Rattle.script_grammar.specs.Words.{is_numeral, is_one_of, keywords, is_short
 use Rattle.script_grammar.specs.Trees.{Member, generator, jacobian, Members, only, more}
 use Rattle.script_grammar.specs.Steps.{◌>>=◌, refused, wanted, mark_at}
 use Rattle.script_grammar.specs.Expressions.{Declarations}
-use Rattle.script_grammar.specs.Statements.{no_room, name_among, member_at, members_at, generators, count_of}
+use Rattle.script_grammar.specs.Statements.{no_room, name_among, member_at, members_at, generators, count_of, no_room_kind}
 use Rattle.script_grammar.specs.Meaning.{Values, variable_count, value_in, member_value, members_value}
 use Rattle.ring_reader.specs.declared.stop.Stop.{Stop}
 use Rattle.ring_reader.specs.Gives.{Fails, meant}
-use Rattle.ring_reader.specs.Effects.{in_ring_of, member_gens, members_gens}
-use Rattle.ring_reader.specs.Gens.{derivatives, no_room_kind}
+use Rattle.ring_reader.specs.Effects.{in_ring_of, member_gens, members_gens, jacobian_gens}
 use Rattle.ring_reader.proofs.Loops.{meant_ok, fails_meant, fails_on}
 use Rattle.ring_reader.proofs.Handed.{after_read}
 
 -- ---- no room
-refusal_if : (left : ℕ) (b : Bool) (kind other : ReadKind) (r : Result (Member × Place) Refusal) → r ≡ Err (record { left = left; kind = other })
-    → cond b (Err (record { left = left; kind = kind })) r ≡ Err (record { left = left; kind = cond b kind other })
-refusal_if left true kind other r e = refl
-refusal_if left false kind other r e = e
-
 -- A word for which there is no room is refused by its kind.
 pub no_room_word : (known : Declarations) (t : Place) (w : List ℕ) → t.token ≡ word w → no_room {A = Member × Place} known t ≡ refused t (no_room_kind known w)
-no_room_word known t w is =
-    rw is
-    (refusal_if t.left (is_numeral w) _ _ _
-    (refusal_if t.left (is_one_of keywords w) _ _ _
-    (refusal_if t.left (is_one_of known.polys w) _ _ _
-    (refusal_if t.left (not (is_short known.letters w)) _ _ _
-    (refusal_if t.left (has_large w) _ _ _ refl)))))
+no_room_word known t w is = rw is refl
 
 -- Where there is no room, what refuses its first token refuses the member.
 pub full_refused : {B : Type 0} (g : Member → B) (known : Declarations) (count : ℕ) (t : Place) (f : Refusal) → is_the_word (codes "jacob") t.token ≡ false → count ≡ 64
@@ -69,12 +57,12 @@ jacobian_go v g old gens i f is so_far =
     ∙ ap (in_ring_of v) (sym (map-range_with_len_more g 0 i i (omega arith))))
 
 -- The derivatives of a declared polynomial are the generators of jacob( ).
-pub jacob_gens : (v : Values) (w : List ℕ) (f : Poly) → value_in v.polys [] w ≡ f → derivatives v f ≡ member_gens v (jacobian w)
-jacob_gens v w f e = ap (derivatives v) (sym e)
+pub jacob_gens : (v : Values) (w : List ℕ) (f : Poly) → value_in v.polys [] w ≡ f → jacobian_gens v f ≡ member_gens v (jacobian w)
+jacob_gens v w f e = ap (jacobian_gens v) (sym e)
 
 -- There are as many derivatives as variables.
-pub length_derivatives : (v : Values) (f : Poly) → length (derivatives v f) ≡ variable_count v
-length_derivatives v f = length-map _ (in_variables (variable_count v)) ∙ length-map-range_with_len _ 0 (variable_count v)
+pub length_jacobian : (v : Values) (f : Poly) → length (jacobian_gens v f) ≡ variable_count v
+length_jacobian v f = length-map _ (in_variables (variable_count v)) ∙ length-map-range_with_len _ 0 (variable_count v)
 
 -- ---- members
 pub gens_more : (v : Values) (ms : Members) (m : Member) → members_gens v (more ms m) ≡ members_gens v ms ++ member_gens v m

@@ -10,7 +10,7 @@ use Rattle.std.specs.Result.{IsErrAnd}
 use Rattle.std.proofs.lemmas.Result.{err_from_is_err_and}
 use Rattle.script_tokens.specs.Reads.{Reads}
 use Rattle.ring_reader.specs.Gives.{meant}
-use Rattle.ring_reader.specs.Monomial.{capped}
+use Rattle.ring_reader.specs.Capped.{capped}
 use Rattle.ring_reader.proofs.Loops.{meant_ok}
 
 -- the loop has read the monomial, and what it still reads makes the whole

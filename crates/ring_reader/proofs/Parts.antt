@@ -10,7 +10,7 @@ use Rattle.script_grammar.specs.Words.{is_the_word}
 use Rattle.script_grammar.specs.Trees.{Ring, Monomial, Tree}
 use Rattle.script_grammar.specs.Steps.{◌>>=◌, refused, wanted}
 use Rattle.script_grammar.specs.Statements.{remarks_at, ring_at, noether_at, degree_of, letters_of}
-use Rattle.script_grammar.specs.Script.{begins_later, statements_at, tree_at, script_of}
+use Rattle.script_grammar.specs.Script.{ring_part, noether_part, statements_at, tree_at, script_of}
 use Rattle.script_grammar.specs.Meaning.{meaning}
 use Rattle.ring_reader.specs.Gives.{meant}
 use Rattle.ring_reader.specs.RingView.{RingValue, ring_value}
@@ -27,30 +27,6 @@ bind_then : {A B C : Type 0} (r : Result A Refusal) (f : A → Result B Refusal)
 bind_then (Ok x) f g = refl
 bind_then (Err e) f g = refl
 
--- ---- the parts
-abbrev ring_read : Place → Result (Ring × Place) Refusal
-ring_read t = if is_the_word (codes "ring") t.token then ring_at (next t.rest) else wanted t whats.Ring
-
--- The ring with its word and what is behind are read in one step or two.
-ring_by : {C : Type 0} (t : Place) (g : RingValue × Place → Result C Refusal) (b : Bool)
-    → ((if b then meant ring_value (ring_at (next t.rest)) else wanted t whats.Ring) >>= g) ≡ ((if b then ring_at (next t.rest) else wanted t whats.Ring) >>= λ r. g (ring_value r.0, r.1))
-ring_by t g true = bind_then (ring_at (next t.rest)) (λ x. Ok (ring_value x.0, x.1)) g
-ring_by t g false = refl
-
--- the noether monomial, from its word on
-abbrev noether_read : List ℕ → Place → Result (Monomial × Place) Refusal
-noether_read letters t =
-    if is_the_word (codes "noether") t.token then noether_at letters (next t.rest)
-    else (if begins_later t.token then refused t MissingNoether else wanted t whats.Noether)
-
--- The noether degree with its word and what is behind are read in one step or two.
-noether_by : {C : Type 0} (letters : List ℕ) (t : Place) (g : ℕ × Place → Result C Refusal) (b c : Bool)
-    → ((if b then meant degree_of (noether_at letters (next t.rest)) else (if c then refused t MissingNoether else wanted t whats.Noether)) >>= g)
-    ≡ ((if b then noether_at letters (next t.rest) else (if c then refused t MissingNoether else wanted t whats.Noether)) >>= λ m. g (degree_of m.0, m.1))
-noether_by letters t g true c = bind_then (noether_at letters (next t.rest)) (λ x. Ok (degree_of x.0, x.1)) g
-noether_by letters t g false true = refl
-noether_by letters t g false false = refl
-
 -- ---- the whole
 abbrev tree_meaning : Tree → Result Script Refusal
 tree_meaning x = Ok (meaning x)
@@ -61,17 +37,17 @@ unfolding tree_at
 parts_are t =
     bind_then (remarks_at t.left [] t) (λ x. Ok x.1) _
     ∙ bind_same (remarks_at t.left [] t) _ _ (λ before.
-    ring_by before.1 _ (is_the_word (codes "ring") before.1.token)
-    ∙ bind_same (ring_read before.1) _ _ (λ ring.
+    bind_then (ring_part before.1) (λ x. Ok (ring_value x.0, x.1)) _
+    ∙ bind_same (ring_part before.1) _ _ (λ ring.
     bind_then (remarks_at ring.1.left [] ring.1) (λ x. Ok x.1) _
     ∙ bind_same (remarks_at ring.1.left [] ring.1) _ _ (λ between.
-    noether_by (letters_of ring.0.variables) between.1 _ (is_the_word (codes "noether") between.1.token) (begins_later between.1.token)
-    ∙ bind_same (noether_read (letters_of ring.0.variables) between.1) _ _ (λ noether.
+    bind_then (noether_part (letters_of ring.0.variables) between.1) (λ x. Ok (degree_of x.0, x.1)) _
+    ∙ bind_same (noether_part (letters_of ring.0.variables) between.1) _ _ (λ noether.
     bind_then (statements_at (suc noether.1.left) (no_names (ring_value ring.0)) 0 [] noether.1) _ _
     ∙ sym (bind_then (statements_at (suc noether.1.left) (no_names (ring_value ring.0)) 0 [] noether.1) _ tree_meaning))
-    ∙ sym (bind_then (noether_read (letters_of ring.0.variables) between.1) _ tree_meaning))
+    ∙ sym (bind_then (noether_part (letters_of ring.0.variables) between.1) _ tree_meaning))
     ∙ sym (bind_then (remarks_at ring.1.left [] ring.1) _ tree_meaning))
-    ∙ sym (bind_then (ring_read before.1) _ tree_meaning))
+    ∙ sym (bind_then (ring_part before.1) _ tree_meaning))
     ∙ sym (bind_then (remarks_at t.left [] t) _ tree_meaning)
 
 -- What bytes ask for is what is read part by part from their first token on.

@@ -15,10 +15,9 @@ use Rattle.script_grammar.specs.Trees.{listed}
 use Rattle.script_grammar.specs.declared.refusal.What.TheVariants as whats
 use Rattle.script_grammar.specs.declared.refusal.ReadKind.TheVariants.{Expected}
 use Rattle.script_grammar.specs.Steps.{◌>>=◌, wanted, kind_at}
-use Rattle.script_grammar.specs.Statements.{variable_at, variables_at, tail_of, letters_of, letters_at}
+use Rattle.script_grammar.specs.Statements.{listed_at, variable_at, variables_at, tail_of, letters_of, letters_at, letter_of, listed_letters}
 use Rattle.ring_reader.specs.declared.stop.Stop.{Stop}
 use Rattle.ring_reader.specs.Gives.{Gives, meant}
-use Rattle.ring_reader.specs.Listed.{listed_at}
 
 -- what the loop still reads makes the whole
 pub record ListedSoFar (ring : List ℕ) (whole : Result (List ℕ × Place) Refusal) (letters : List ℕ) (t : Place) : Type 0 where
@@ -123,32 +122,33 @@ listed_stops ring whole letters t f no_comma no_close refuses s =
     listed_stops-at ring whole letters t no_comma no_close s.turns s.enough s.reads ∙ ap (λ (x : Refusal). Err x) (sym refuses)
 
 -- ---- the whole list
--- the letters that were there at first stay in front
-front_kept-by : (comma close : Bool) (l : ℕ) (r : Result (ℕ × Place) Refusal) (go : ℕ × Place → Result (List ℕ × Place) Refusal) (here : List ℕ × Place) (stop : Refusal) → here.0 ≡ l ∷ tail_of here.0
-    → ((y : ℕ × Place) → (go y >>= λ all. Ok (l ∷ tail_of all.0, all.1)) ≡ go y)
-    → (cond comma (r >>= go) (cond close (Ok here) (Err stop)) >>= λ all. Ok (l ∷ tail_of all.0, all.1)) ≡ cond comma (r >>= go) (cond close (Ok here) (Err stop))
-front_kept-by true close l (Ok y) go here stop e kept = kept y
-front_kept-by true close l (Err f) go here stop e kept = refl
-front_kept-by false true l r go here stop e kept = ap (λ (k : List ℕ). Ok (k, here.1)) (sym e)
-front_kept-by false false l r go here stop e kept = refl
+-- the first letter and those behind it
+abbrev whole_list : List ℕ × Place → Result (List ℕ × Place) Refusal
+whole_list all = Ok (letter_of all.0 ∷ tail_of all.0, all.1)
 
--- The first letter stays the first one.
-front_kept : (n : ℕ) (ring : List ℕ) (l : ℕ) (letters : List ℕ) (t : Place) → (variables_at n ring (l ∷ letters) t >>= λ all. Ok (l ∷ tail_of all.0, all.1)) ≡ variables_at n ring (l ∷ letters) t
+-- Letters of which there are some are the first one and those behind it, whichever way the loop goes.
+front_kept-by : (comma close : Bool) (r : Result (ℕ × Place) Refusal) (go : ℕ × Place → Result (List ℕ × Place) Refusal) (here : List ℕ × Place) (stop : Refusal) → here.0 ≡ letter_of here.0 ∷ tail_of here.0
+    → ((y : ℕ × Place) → (go y >>= whole_list) ≡ go y) → (cond comma (r >>= go) (cond close (Ok here) (Err stop)) >>= whole_list) ≡ cond comma (r >>= go) (cond close (Ok here) (Err stop))
+front_kept-by true close (Ok y) go here stop e kept = kept y
+front_kept-by true close (Err f) go here stop e kept = refl
+front_kept-by false true r go here stop e kept = ap (λ (k : List ℕ). Ok (k, here.1)) (sym e)
+front_kept-by false false r go here stop e kept = refl
+
+-- The letters that a loop reads are the first one and those behind it.
+front_kept : (n : ℕ) (ring : List ℕ) (l : ℕ) (letters : List ℕ) (t : Place) → (variables_at n ring (l ∷ letters) t >>= whole_list) ≡ variables_at n ring (l ∷ letters) t
 unfolding variables_at
 front_kept zero ring l letters t = refl
 front_kept (suc n) ring l letters t =
-    front_kept-by (is_the_mark 44 t.token) (is_the_mark 41 t.token) l (variable_at ring (l ∷ letters) (next t.rest))
+    front_kept-by (is_the_mark 44 t.token) (is_the_mark 41 t.token) (variable_at ring (l ∷ letters) (next t.rest))
     (λ y. variables_at n ring (l ∷ (letters ++ y.0 ∷ [])) y.1) (l ∷ letters, next t.rest) (record { left = t.left; kind = kind_at t.token (Expected whats.Comma) }) refl
     (λ y. front_kept n ring l (letters ++ y.0 ∷ []) y.1)
 
--- letters in parentheses are the letters that are listed
+-- Letters in parentheses are the letters that are listed, from the first one on.
 letters_listed-by : (ring : List ℕ) (r : Result (ℕ × Place) Refusal)
-    → meant letters_of (r >>= λ first. variables_at (suc first.1.left) ring (first.0 ∷ []) first.1 >>= λ all. Ok (listed first.0 (tail_of all.0), all.1))
-    ≡ (r >>= λ first. variables_at (suc first.1.left) ring (first.0 ∷ []) first.1)
-letters_listed-by ring (Ok x) =
-    twice (variables_at (suc x.1.left) ring (x.0 ∷ []) x.1) ∙ front_kept (suc x.1.left) ring x.0 [] x.1
+    → meant letters_of (r >>= (λ first. variables_at (suc first.1.left) ring (first.0 ∷ []) first.1) >>= λ all. Ok (listed_letters all.0, all.1)) ≡ (r >>= λ first. variables_at (suc first.1.left) ring (first.0 ∷ []) first.1)
+letters_listed-by ring (Ok x) = twice (variables_at (suc x.1.left) ring (x.0 ∷ []) x.1) ∙ front_kept (suc x.1.left) ring x.0 [] x.1
   where
-    twice : (r : Result (List ℕ × Place) Refusal) → meant letters_of (r >>= λ all. Ok (listed x.0 (tail_of all.0), all.1)) ≡ (r >>= λ all. Ok (x.0 ∷ tail_of all.0, all.1))
+    twice : (r : Result (List ℕ × Place) Refusal) → meant letters_of (r >>= λ all. Ok (listed_letters all.0, all.1)) ≡ (r >>= whole_list)
     twice (Ok all) = refl
     twice (Err e) = refl
 letters_listed-by ring (Err e) = refl

@@ -3,7 +3,7 @@ use Rattle.std.specs.Prelude.{ℕ, List, [], map, if◌then◌else◌}
 use Rattle.sparse_poly.specs.Poly.{Poly, Polynomial, in_variables}
 use Rattle.script_grammar.specs.Trees.{Member, Members, Statement, remark, poly, again, ideal, command, command_std}
 use Rattle.script_grammar.specs.Statements.{is_on_poly}
-use Rattle.script_grammar.specs.Meaning.{Values, variable_count, value_in, sum_value, member_value, members_value, function_subject, ideal_subject}
+use Rattle.script_grammar.specs.Meaning.{Values, variable_count, value_in, sum_value, derivatives, member_value, members_value, function_subject, ideal_subject}
 use Rattle.ring_reader.specs.declared.effect.Effect.{Effect}
 use Rattle.ring_reader.specs.declared.effect.Effect.TheVariants as effects
 
@@ -25,7 +25,10 @@ effect_of v (ideal name ms) = ideal_effect v name (members_value v ms)
 effect_of v (command w name) = effects.Command (record { word = w; name = name; subject = if is_on_poly w then function_subject v name else ideal_subject v name })
 effect_of v (command_std w name) = effects.Command (record { word = w; name = name; subject = ideal_subject v name })
 
--- the generators of a member, and of members
+-- the generators that the derivatives of f are, those of a member, and of members
+abbrev pub jacobian_gens : Values → Poly → List Polynomial
+jacobian_gens v f = in_ring_of v (derivatives v f)
+
 abbrev pub member_gens : Values → Member → List Polynomial
 member_gens v m = in_ring_of v (member_value v m)
 

@@ -3,12 +3,10 @@ pub mod NamesView
 pub mod Gives
 pub mod Constant
 pub mod RingView
-pub mod Listed
-pub mod Monomial
+pub mod Capped
 pub mod Effects
 pub mod After
 pub mod Parts
 pub mod Behind
-pub mod Gens
 pub mod Answers
 pub mod Coherent

@@ -5,10 +5,9 @@ ghost use Rattle.sparse_poly.specs.Poly.{cut};
 ghost use Rattle.script_tokens.specs.PlaceView.{place_of};
 ghost use Rattle.script_grammar.specs.Tokens.{Place as Lexed};
 ghost use Rattle.script_grammar.specs.Trees.{Member};
-ghost use Rattle.script_grammar.specs.Statements.{no_room as no_room_at, member_at};
+ghost use Rattle.script_grammar.specs.Statements.{no_room as no_room_at, no_room_kind, member_at, members_from};
 ghost use Rattle.ring_reader.specs.Gives.{Gives, meant};
-ghost use Rattle.ring_reader.specs.Effects.{member_gens, members_gens};
-ghost use Rattle.ring_reader.specs.Gens.{derivatives, no_room_kind, members_from};
+ghost use Rattle.ring_reader.specs.Effects.{jacobian_gens, member_gens, members_gens};
 ghost use Rattle.ring_reader.specs.NamesView.{declarations_of, values_of};
 ghost use Rattle.ring_reader.specs.Sound.{IsSound, IsValue, IsGenerator};
 
@@ -77,7 +76,7 @@ fn push_jacobian(
     requires sound { IsSound names.now }
     requires value { IsValue names.now.field (length names.now.letters) f.now }
     requires valid { All (IsGenerator names.now.field (length names.now.letters) names.now.d) gens.old.items }
-    ensures gens { OnOk result (gens.new.items ≡ gens.old.items ++ derivatives (values_of names.now) f.now.terms) }
+    ensures gens { OnOk result (gens.new.items ≡ gens.old.items ++ jacobian_gens (values_of names.now) f.now.terms) }
     ensures valid { OnOk result (All (IsGenerator names.now.field (length names.now.letters) names.now.d) gens.new.items) }
 {
     for i in 0..names.letters.len() {

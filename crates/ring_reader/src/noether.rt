@@ -5,9 +5,9 @@ ghost use Rattle.local_order.specs.Count.{monomial_count as number_of_monomials}
 ghost use Rattle.sparse_poly.specs.Letters.{AreLetters};
 ghost use Rattle.script_tokens.specs.PlaceView.{place_of};
 ghost use Rattle.script_tokens.specs.Reads.{Reads};
-ghost use Rattle.script_grammar.specs.Statements.{factor_at, factor_degree, degree_of, noether_at};
+ghost use Rattle.script_grammar.specs.Statements.{factor_at, monomial_at, factor_degree, degree_of, noether_at};
 ghost use Rattle.ring_reader.specs.Gives.{meant};
-ghost use Rattle.ring_reader.specs.Monomial.{monomial_at, capped};
+ghost use Rattle.ring_reader.specs.Capped.{capped};
 
 use mono_rank::{MAX_MONOMIALS, monomial_count};
 use script_grammar::{ReadKind, Refusal, What};

@@ -5,8 +5,8 @@ ghost use Rattle.script_tokens.specs.PlaceView.{place_of};
 ghost use Rattle.script_tokens.specs.TokenView.{token_of};
 ghost use Rattle.script_tokens.specs.Reads.{Reads};
 ghost use Rattle.script_grammar.specs.Words.{is_the_text};
-ghost use Rattle.script_grammar.specs.Statements.{begins_remark, remark_at};
-ghost use Rattle.ring_reader.specs.Behind.{behind_read, remarks_read, library_at};
+ghost use Rattle.script_grammar.specs.Statements.{begins_remark, library_at, remark_at};
+ghost use Rattle.ring_reader.specs.Behind.{behind_read, remarks_read};
 
 use script_grammar::{ReadKind, Refusal, What};
 use script_tokens::{Place, Token, behind, is_word, mark, refused, same, word};

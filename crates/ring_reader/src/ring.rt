@@ -9,9 +9,8 @@ ghost use Rattle.script_tokens.specs.PlaceView.{place_of};
 ghost use Rattle.script_tokens.specs.Reads.{Reads, meant_number};
 ghost use Rattle.script_grammar.specs.Tokens.{is_letter};
 ghost use Rattle.script_grammar.specs.Words.{has_letter};
-ghost use Rattle.script_grammar.specs.Statements.{ring_name_at, prime_at, variable_at, letters_at, letters_of, ring_at};
+ghost use Rattle.script_grammar.specs.Statements.{ring_name_at, prime_at, variable_at, listed_at, letters_at, letters_of, ring_at};
 ghost use Rattle.ring_reader.specs.Gives.{Gives, meant};
-ghost use Rattle.ring_reader.specs.Listed.{listed_at};
 ghost use Rattle.ring_reader.specs.RingView.{ring_of, ring_value};
 
 use crate::stop::Stop;

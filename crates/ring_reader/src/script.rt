@@ -9,13 +9,14 @@ ghost use Rattle.script_tokens.specs.TokenView.{token_of};
 ghost use Rattle.script_tokens.specs.Reads.{Reads};
 ghost use Rattle.script_grammar.specs.Words.{is_the_end};
 ghost use Rattle.script_grammar.specs.Trees.{Tree};
-ghost use Rattle.script_grammar.specs.Script.{position_from};
+ghost use Rattle.script_grammar.specs.Statements.{degree_of};
+ghost use Rattle.script_grammar.specs.Script.{noether_part, position_from};
 ghost use Rattle.script_grammar.specs.Valid.{IsScript};
 ghost use Rattle.script_grammar.specs.Meaning.{meaning};
 ghost use Rattle.ring_reader.specs.Answers.{Answers, asked_by};
 ghost use Rattle.ring_reader.specs.Coherent.{IsCoherent, IsCommandIn};
-ghost use Rattle.ring_reader.specs.Gives.{Gives};
-ghost use Rattle.ring_reader.specs.Parts.{noether_part, script_parts, statements_part};
+ghost use Rattle.ring_reader.specs.Gives.{Gives, meant};
+ghost use Rattle.ring_reader.specs.Parts.{script_parts, statements_part};
 ghost use Rattle.ring_reader.specs.RingView.{ring_of};
 
 use crate::error::ReadError;
@@ -101,7 +102,7 @@ fn letters_of(bytes: &[u8]) -> Letters
 /// The noether degree, from the word `noether` on. Another statement there is refused as such.
 fn noether_degree<'a>(letters: &[u8], here: Place<'a>) -> Result<(u32, Place<'a>), Refusal>
     requires { AreLetters letters.now }
-    ensures reads { Reads (λ x. (x.0, place_of x.1)) result (noether_part letters.now (place_of here.entry)) }
+    ensures reads { Reads (λ x. (x.0, place_of x.1)) result (meant degree_of (noether_part letters.now (place_of here.entry))) }
     ensures some { IfOk result (λ x. 1 ≤ x.0) }
     ensures low { IfOk result (λ x. x.0 ≤ 255) }
     ensures few { IfOk result (λ x. monomial_count (length letters.now) x.0 ≤ 4096) }

@@ -2,11 +2,10 @@ use Rattle.std.proofs.Common.{◌∙◌, ◌++◌, ap, sym, length, arith, [], L
 use Rattle.std.proofs.lemmas.List.{length-append}
 use Rattle.sparse_poly.specs.Poly.{Polynomial}
 use Rattle.script_tokens.specs.PlaceView.{place_of}
-use Rattle.ring_reader.specs.Effects.{member_gens}
-use Rattle.ring_reader.specs.Gens.{derivatives}
+use Rattle.ring_reader.specs.Effects.{jacobian_gens, member_gens}
 use Rattle.ring_reader.specs.Gives.{meant}
 use Rattle.ring_reader.specs.NamesView.{declarations_of, values_of}
-use Rattle.ring_reader.proofs.Generators.{full_refused, jacob_reads, jacob_gens, length_derivatives}
+use Rattle.ring_reader.proofs.Generators.{full_refused, jacob_reads, jacob_gens, length_jacobian}
 use Rattle.ring_reader.proofs.members.member.Goals as goal
 
 pub returns-then-is_word-clause-gives : goal.returns-then-is_word-clause-gives
@@ -24,8 +23,8 @@ returns-then-is_word-clause-gives c =
 pub returns-then-is_word-clause-few : goal.returns-then-is_word-clause-few
 returns-then-is_word-clause-few c =
     let names = c.args.names.now in
-    let count = ap length c.in_ok-push_jacobian.ensures.gens ∙ length-append c.args.gens.now.items (derivatives (values_of names) c.in-Some.f.now.value.terms) in
-    omega (arith, count, length_derivatives (values_of names) c.in-Some.f.now.value.terms, c.if-len-gt-MAX_GENERATORS.false, c.len.ensures, c.len-then-is_word.ensures.value)
+    let count = ap length c.in_ok-push_jacobian.ensures.gens ∙ length-append c.args.gens.now.items (jacobian_gens (values_of names) c.in-Some.f.now.value.terms) in
+    omega (arith, count, length_jacobian (values_of names) c.in-Some.f.now.value.terms, c.if-len-gt-MAX_GENERATORS.false, c.len.ensures, c.len-then-is_word.ensures.value)
 
 pub returns-then-len-eq-MAX_GENERATORS-clause-gives : goal.returns-then-len-eq-MAX_GENERATORS-clause-gives
 returns-then-len-eq-MAX_GENERATORS-clause-gives c =

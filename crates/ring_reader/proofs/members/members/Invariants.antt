@@ -1,7 +1,7 @@
 use Rattle.std.proofs.Common.{◌≤◌, ◌-◌, length}
 use Rattle.std.specs.Prelude.{All}
 use Rattle.script_tokens.specs.PlaceView.{place_of}
-use Rattle.ring_reader.specs.Gens.{members_from}
+use Rattle.script_grammar.specs.Statements.{members_from}
 use Rattle.ring_reader.specs.NamesView.{declarations_of, values_of}
 use Rattle.ring_reader.specs.Sound.{IsGenerator}
 use Rattle.ring_reader.proofs.Generators.{MembersSoFar}

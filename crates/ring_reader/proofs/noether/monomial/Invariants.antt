@@ -1,6 +1,6 @@
 use Rattle.std.proofs.Common.{◌<◌, ◌≤◌}
 use Rattle.script_tokens.specs.PlaceView.{place_of}
-use Rattle.ring_reader.specs.Monomial.{monomial_at}
+use Rattle.script_grammar.specs.Statements.{monomial_at}
 use Rattle.ring_reader.proofs.Monomials.{MonomialSoFar}
 use Rattle.ring_reader.proofs.noether.monomial.Given as goal
 

@@ -1,6 +1,6 @@
 use Rattle.std.proofs.Common.{◌<◌}
 use Rattle.script_tokens.specs.PlaceView.{place_of}
-use Rattle.ring_reader.specs.Listed.{listed_at}
+use Rattle.script_grammar.specs.Statements.{listed_at}
 use Rattle.ring_reader.proofs.Variables.{ListedSoFar}
 use Rattle.ring_reader.proofs.ring.listed.Given as goal
 
