@@ -270,11 +270,11 @@ module _ (s : Place) where
         | inl inside ↦ elim (bind_err (member_at known 0 t) _ f inside) [
           | inl early ↦ member_caused known 0 c t f prime (omega arith) st placed here early
           | inr late ↦
-            let m = late.0 in
-            let is = member_found known 0 t m (omega arith) late.1 in
-            let there = stand_placed t (member_tokens m.0) m.1 placed is.stand in
-            let k : Membered known c (only m.0) m.1 = record { leads = Leads-then s c t (member_tokens m.0) m.1 st is.stand (AreTokens-member m.0); valid = is.valid; few = omega (arith, is.fits); behind = member_behind known 0 c t m.0 m.1 (omega arith) placed here late.1 } in
-            members_caused known c (only m.0) m.1 f prime b k there.1 late.2
+              let m = late.0 in
+              let is = member_found known 0 t m (omega arith) late.1 in
+              let there = stand_placed t (member_tokens m.0) m.1 placed is.stand in
+              let k : Membered known c (only m.0) m.1 = record { leads = Leads-then s c t (member_tokens m.0) m.1 st is.stand (AreTokens-member m.0); valid = is.valid; few = omega (arith, is.fits); behind = member_behind known 0 c t m.0 m.1 (omega arith) placed here late.1 } in
+              members_caused known c (only m.0) m.1 f prime b k there.1 late.2
         ]
       ]
 

@@ -200,14 +200,14 @@ module _ (s : Place) where
         elim (bind_err (listed_at name (next t.rest)) _ f opened.1) [
           | inr all ↦ absurd (never _ f all.2)
           | inl inside ↦ elim (bind_err (variable_at name [] (next t.rest)) _ f inside) [
-          | inl early ↦ variable_caused name [] (value_of p) d (next t.rest) f st-1 (inr (in_begun name p [] c (one (mark 40)) b (omega arith) tt)) (omega arith) early
-          | inr late ↦
-              let a = variable_step name [] (next t.rest) (λ x. Ok x) late.0 (ap (λ (r : Result (ℕ × Place) Refusal). r >>= λ x. Ok x) late.1) in
-              let u = next (next t.rest).rest in
-              let same : late.0 ≡ (a.0, u) = sym (ok_is (a.0, u) late.0 a.6) in
-              let to_u : Leads s (c ++ (mark 40 ∷ one (word (a.0 ∷ [])))) u = Leads-then s c t (mark 40 ∷ one (word (a.0 ∷ []))) u st (mark_is 40 t.token opened.0, (a.1, refl)) (tt, (tt, tt)) in
-              let k : Lettered name p c (a.0 ∷ []) u = record { first = a.0; others = []; is = refl; leads = to_u; few = omega arith; are = (a.2, refl, a.5, tt) } in
-              letters_caused name p c (a.0 ∷ []) u f b k (next_placed (next t.rest).rest) (sym (ap (λ (x : ℕ × Place). variables_at (suc x.1.left) name (x.0 ∷ []) x.1) same) ∙ late.2)
+            | inl early ↦ variable_caused name [] (value_of p) d (next t.rest) f st-1 (inr (in_begun name p [] c (one (mark 40)) b (omega arith) tt)) (omega arith) early
+            | inr late ↦
+                let a = variable_step name [] (next t.rest) (λ x. Ok x) late.0 (ap (λ (r : Result (ℕ × Place) Refusal). r >>= λ x. Ok x) late.1) in
+                let u = next (next t.rest).rest in
+                let same : late.0 ≡ (a.0, u) = sym (ok_is (a.0, u) late.0 a.6) in
+                let to_u : Leads s (c ++ (mark 40 ∷ one (word (a.0 ∷ [])))) u = Leads-then s c t (mark 40 ∷ one (word (a.0 ∷ []))) u st (mark_is 40 t.token opened.0, (a.1, refl)) (tt, (tt, tt)) in
+                let k : Lettered name p c (a.0 ∷ []) u = record { first = a.0; others = []; is = refl; leads = to_u; few = omega arith; are = (a.2, refl, a.5, tt) } in
+                letters_caused name p c (a.0 ∷ []) u f b k (next_placed (next t.rest).rest) (sym (ap (λ (x : ℕ × Place). variables_at (suc x.1.left) name (x.0 ∷ []) x.1) same) ∙ late.2)
           ]
         ]
     | inr nay ↦ elim (bind_err (variable_at name [] t) _ f nay.1) [
