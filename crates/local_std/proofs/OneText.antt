@@ -9,7 +9,7 @@ use Rattle.script_grammar.specs.declared.script.Command.{Command}
 use Rattle.script_grammar.specs.declared.script.Script.{Script}
 use Rattle.text_out.specs.declared.answer.Answer.{Answer}
 use Rattle.text_out.specs.declared.answer.Answer.TheVariants.{Fits, TooSmall}
-use Rattle.text_out.specs.Block.{heading, small_line, corner_line, dimension_line, kbase_lines, member_lines, fitting_lines, answer_lines}
+use Rattle.text_out.specs.Block.{characteristic_of, heading, small_line, corner_line, dimension_line, kbase_lines, member_lines, fitting_lines, answer_lines}
 use Rattle.local_std.specs.Answer.{problem_of, IsAnswerOf, IsBlock, AreBlocks, IsAnswer}
 use Rattle.staircase.proofs.Basis.{one_basis}
 use Rattle.staircase.proofs.Staircases.{one_staircase, one_missing, none_missing}
@@ -49,7 +49,7 @@ one_lines letters p word P (TooSmall missing) (TooSmall other) x y = ap (small_l
 one_block : (s : Script) (index : ℕ) (c : Command) (text other : List ℕ) → IsBlock s index c text → IsBlock s index c other → text ≡ other
 one_block s index c text other x y =
     x.spelled
-    ∙ ap (λ l. heading index c.word c.name ++ l) (one_lines s.letters s.field c.word (problem_of s c) x.answer y.answer x.answers y.answers)
+    ∙ ap (λ l. heading index c.word c.name ++ l) (one_lines s.letters (characteristic_of c.subject) c.word (problem_of s c) x.answer y.answer x.answers y.answers)
     ∙ sym y.spelled
 
 -- so commands have one text

@@ -30,7 +30,7 @@ IsAnswerOf P (answers.TooSmall missing) = IsFirstMissing P missing
 pub record IsBlock (s : Script) (index : ℕ) (c : Command) (text : List ℕ) : Type 0 where
   pub answer : Answer
   pub answers : IsAnswerOf (problem_of s c) answer
-  pub spelled : text ≡ block index s.letters s.field c.word c.name answer
+  pub spelled : text ≡ block index s.letters c answer
 
 -- the blocks of commands one after another, numbered from index on
 abbrev pub AreBlocks : Script → ℕ → List Command → List ℕ → Type 0

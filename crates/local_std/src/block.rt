@@ -67,14 +67,7 @@ fn block_of(
         unreachable!()
     };
     let answer = answer_of(alloc, problem)?;
-    let text = block_text(
-        alloc,
-        index,
-        &script.letters,
-        &script.field,
-        command,
-        &answer,
-    )?;
+    let text = block_text(alloc, index, &script.letters, command, &answer)?;
     Ok(Blocks {
         fits: is_fitting(&answer),
         text,

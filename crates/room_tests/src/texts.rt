@@ -1,14 +1,15 @@
 //! Texts that were written by hand.
 
-ghost use Rattle.std.specs.Prelude.{◌≡◌, false, length, All, IfOk};
+ghost use Rattle.std.specs.Prelude.{◌≡◌, [], false, length, All, IfOk};
 ghost use Rattle.std.specs.Str.{IsAscii};
 ghost use Rattle.sparse_poly.specs.Poly.{IsCanonical};
 ghost use Rattle.script_grammar.specs.Statements.{is_on_poly};
+ghost use Rattle.text_out.specs.Block.{IsIdeal, characteristic_of};
 
 use crate::build::{Exponents, Written, field, mono, poly};
 use prime_field::Field;
 use script_grammar::{Command, Name, Subject, Word};
-use sparse_poly::{Letters, Poly, Polys};
+use sparse_poly::{Letters, Polys, Problem};
 use std::alloc::Global;
 use std::test::Fail;
 use text_out::{Answer, Monos, block_text, mono_text, poly_text};
@@ -42,15 +43,27 @@ fn stair(alloc: Global, monomials: &[Exponents]) -> Result<Monos, Fail>
     Ok(all)
 }
 
+/// The problem without generators in x and y over Z/32003, modulo degree 6.
+fn problem(alloc: Global) -> Result<Problem, Fail>
+    ensures { IfOk result (λ P. P.p ≡ 32003) }
+{
+    let field = field(32003)?;
+    // Its prime is one of the table.
+    let _prime = field.prime();
+    Ok(Problem::new(field, 2, 5, Polys::new(alloc)))
+}
+
 /// The command of that word on i.
 fn command(alloc: Global, word: Word) -> Result<Command, Fail>
     ensures word { IfOk result (λ c. c.word ≡ word) }
     ensures name { IfOk result (λ c. IsAscii c.name) }
+    ensures subject { IfOk result (λ c. IsIdeal c.subject) }
+    ensures field { IfOk result (λ c. characteristic_of c.subject ≡ 32003) }
 {
     Ok(Command {
         word,
         name: Name::new(alloc, b"i")?,
-        subject: Subject::Function(Poly::zero(alloc, 2)),
+        subject: Subject::Ideal(problem(alloc)?),
     })
 }
 
@@ -68,14 +81,7 @@ fn fitting_block(
         basis: basis(alloc, &field, leads)?,
         stair: stair(alloc, monomials)?,
     };
-    Ok(block_text(
-        alloc,
-        1,
-        &letters()?,
-        &field,
-        &command(alloc, word)?,
-        &answer,
-    )?)
+    Ok(block_text(alloc, 1, &letters()?, &command(alloc, word)?, &answer)?)
 }
 
 /// The blocks of the commands on ideals, one behind the other.
@@ -160,7 +166,6 @@ fn small_degree(rt: HostRuntime) -> Result<(), Fail> {
         alloc,
         1,
         &letters()?,
-        &field(32003)?,
         &command(alloc, Word::Kbase)?,
         &answer,
     )?;
