@@ -1,7 +1,7 @@
 //! Covers: which monomials are multiples of leads, and the corner from which on all are.
 
 ghost use Rattle.std.specs.Prelude.{◌≡◌, ℕ, List, [], ◌∷◌, ◌++◌, ◌<◌, IfOk};
-ghost use Rattle.local_order.specs.Count.{monomial_count};
+ghost use Rattle.local_order.specs.Shape.{count};
 ghost use Rattle.mono_rank.specs.Cover.{IsCorner};
 ghost use Rattle.corner_word.specs.Marks.{IsCoverOf};
 
@@ -11,7 +11,7 @@ use std::alloc::{AllocError, Global};
 use std::marker::Model;
 
 /// The ranks of the multiples of the leads that were added, and the highest corner.
-/// A contract sees the number of variables, the greatest degree and the marks of the ranks. The marks tell of no order
+/// A contract sees the monomials that it is about, and the marks of the ranks. The marks tell of no order
 /// of the leads, so a list of leads is one that the marks are the cover of, `IsCoverOf`.
 #[derive(Drop)]
 pub struct Cover {
@@ -26,22 +26,21 @@ impl Model for Cover {
 
     ghost Value = { Marked };
 
-    ghost view = { λ c. record { n = c.n; d = c.d; marks = c.marks.items } };
+    ghost view = { λ c. record { shape = record { variables = c.n; degree = c.d }; marks = c.marks.items } };
 
-    ghost invariant = { λ c. IsKept c.n c.d c.marks.items c.corner };
+    ghost invariant = { λ c. IsKept (record { variables = c.n; degree = c.d }) c.marks.items c.corner };
 }
 
 impl Cover {
     /// The cover of no leads, over the monomials of a table.
     pub fn new(alloc: Global, table: &RankTable) -> Result<Cover, AllocError>
-        ensures variables { IfOk result (λ c. c.n ≡ table.now.n) }
-        ensures degree { IfOk result (λ c. c.d ≡ table.now.d) }
+        ensures shape { IfOk result (λ c. c.shape ≡ table.now) }
         ensures leads { IfOk result (λ c. IsCoverOf [] c) }
     {
         let count = table.count();
         Ok(Cover {
-            n: table.mono(0).n(),
-            d: table.degree_of(count - 1),
+            n: table.n(),
+            d: table.d(),
             marks: vec![in alloc; false; count as usize]?,
             corner: count,
         })
@@ -49,11 +48,9 @@ impl Cover {
 
     /// Adds a lead by its rank in a table of the same monomials. It costs a test of each rank from that of the lead on.
     pub fn add(&mut self, table: &RankTable, lead: u32)
-        requires variables { table.now.n ≡ self.old.n }
-        requires degree { table.now.d ≡ self.old.d }
-        requires low { lead < monomial_count self.old.n self.old.d }
-        ensures variables { self.new.n ≡ self.old.n }
-        ensures degree { self.new.d ≡ self.old.d }
+        requires shape { table.now ≡ self.old.shape }
+        requires low { lead < count self.old.shape }
+        ensures shape { self.new.shape ≡ self.old.shape }
         ensures leads { (leads : List ℕ) → IsCoverOf leads self.old → IsCoverOf (leads ++ lead ∷ []) self.new }
     {
         mark_multiples(&mut self.marks, table, lead);
@@ -62,7 +59,7 @@ impl Cover {
 
     /// The highest corner: the least rank from which on each monomial is a multiple of a lead. It is kept, and only read here.
     pub fn corner(&self) -> u32
-        ensures { (leads : List ℕ) → IsCoverOf leads self.now → IsCorner self.now.n self.now.d leads result }
+        ensures { (leads : List ℕ) → IsCoverOf leads self.now → IsCorner self.now.shape leads result }
     {
         self.corner
     }

@@ -2,7 +2,7 @@
 
 ghost use Rattle.std.specs.Prelude.{◌≡◌, ℕ, List, ◌<◌, ◌≤◌, ◌↔◌, ◌⊎◌, length, IsTrue};
 ghost use Rattle.local_order.specs.Mono.{Divides};
-ghost use Rattle.local_order.specs.Count.{monomial_count};
+ghost use Rattle.local_order.specs.Shape.{count};
 ghost use Rattle.mono_rank.specs.Rank.{HasRank};
 ghost use Rattle.corner_word.specs.Marks.{mark_at, IsMarkedFrom, IsLeastMarked};
 
@@ -10,9 +10,9 @@ use mono_rank::RankTable;
 
 /// Marks the multiples of the monomial of rank `lead`. None of them is above it, so each has a rank from `lead` on.
 pub(crate) fn mark_multiples(marks: &mut [bool], table: &RankTable, lead: u32)
-    requires all { length marks.old ≡ monomial_count table.now.n table.now.d }
-    requires low { lead < monomial_count table.now.n table.now.d }
-    ensures { (k m : List ℕ) (r : ℕ) → HasRank table.now.n table.now.d k lead → HasRank table.now.n table.now.d m r
+    requires all { length marks.old ≡ count table.now }
+    requires low { lead < count table.now }
+    ensures { (k m : List ℕ) (r : ℕ) → HasRank table.now k lead → HasRank table.now m r
         → IsTrue (mark_at marks.new r) ↔ (IsTrue (mark_at marks.old r) ⊎ Divides k m) }
 {
     for r in lead..table.count() {

@@ -2,3 +2,4 @@ pub mod Mono
 pub mod Order
 pub mod Stored
 pub mod Count
+pub mod Shape

@@ -1,13 +1,13 @@
 // The answer of an ideal.
 ghost use Rattle.std.specs.Prelude.{◌≡◌, ◌<◌, map, All, Contains, IfOk};
 ghost use Rattle.std.specs.Bool.{OnTrue, OnFalse};
-ghost use Rattle.local_order.specs.Count.{monomial_count};
+ghost use Rattle.local_order.specs.Shape.{count};
+ghost use Rattle.sparse_poly.specs.Shape.{shape_of};
 ghost use Rattle.mono_rank.specs.Rank.{mono_of_rank};
 ghost use Rattle.sparse_poly.specs.Ideal.{Problem as IdealProblem, Fits};
 ghost use Rattle.mora_law.specs.Legal.{Legal};
 ghost use Rattle.mora_law.specs.Settled.{AllSettled};
 ghost use Rattle.staircase.specs.Stair.{IsStairOf};
-ghost use Rattle.tail_reduce.specs.Rows.{shape_of};
 ghost use Rattle.tail_reduce.specs.Divisors.{leads_of};
 ghost use Rattle.text_out.specs.Answers.{IsInRing};
 ghost use Rattle.local_std.specs.Answer.{IsAnswerOf};
@@ -70,8 +70,8 @@ fn table_of(alloc: Global, problem: &Problem) -> Result<RankTable, AllocError>
 
 /// The monomials of some ranks.
 fn monomials(alloc: Global, table: &RankTable, ranks: &[u32]) -> Result<Vec<Mono>, AllocError>
-    requires { All (λ r. r < monomial_count table.now.n table.now.d) ranks.now }
-    ensures { IfOk result (λ v. v.items ≡ map (mono_of_rank table.now.n table.now.d) ranks.now) }
+    requires { All (λ r. r < count table.now) ranks.now }
+    ensures { IfOk result (λ v. v.items ≡ map (mono_of_rank table.now) ranks.now) }
 {
     let mut monomials = Vec::with_capacity(alloc, ranks.len())?;
     for place in 0..ranks.len() {

@@ -2,6 +2,7 @@
 -- to the next monomial, and goes over to products. So their ranks follow each other, and so do those of their multiples.
 use Rattle.std.proofs.Common.{◌≡◌, ℕ, zero, suc, ◌+◌, ◌-◌, ◌<◌, ◌≤◌, List, [], ◌∷◌, length, get_or, refl, sym, ◌∙◌, ap, ap₂, subst, arith}
 use Rattle.local_order.specs.Mono.{degree, mono_times}
+use Rattle.local_order.specs.Shape.{Shape, count}
 use Rattle.local_order.proofs.Order.{length-mono_times}
 use Rattle.mono_rank.specs.Rank.{HasRank}
 use Rattle.mono_rank.specs.Next.{run_of}
@@ -9,7 +10,6 @@ use Rattle.mono_rank.proofs.Places.{place}
 use Rattle.mono_rank.proofs.Steps.{next}
 use Rattle.mono_rank.proofs.Walk.{place-next}
 use Rattle.mono_rank.proofs.Ranks.{rank_is, rank_small, one_of_rank}
-use Rattle.local_order.specs.Count.{monomial_count}
 
 -- k powers of the first variable become powers of the second
 abbrev pub traded : ℕ → List ℕ → List ℕ
@@ -63,18 +63,18 @@ times-traded k (a ∷ d ∷ x) (b ∷ c ∷ y) e l =
     ap₂ (λ v w. v ∷ w ∷ mono_times x y) (let f : a + (b - k) ≡ a + b - k = omega arith in f) (let f : d + (c + k) ≡ d + c + k = omega arith in f)
 
 -- so k trades raise the rank by k
-rank_traded : (n d : ℕ) (y : List ℕ) (r k : ℕ) → 1 ≤ n → HasRank n d y r → k < run_of y → HasRank n d (traded k y) (r + k)
-rank_traded n d y r k some h l = record { in_ring = in_ring; low = low; rank = rank_is n d (traded k y) some in_ring low ∙ omega (arith, place-traded k y l, rank_is n d y some h.in_ring h.low, h.rank) }
+rank_traded : (T : Shape) (y : List ℕ) (r k : ℕ) → 1 ≤ T.variables → HasRank T y r → k < run_of y → HasRank T (traded k y) (r + k)
+rank_traded T y r k some h l = record { in_ring = in_ring; low = low; rank = rank_is T (traded k y) some in_ring low ∙ omega (arith, place-traded k y l, rank_is T y some h.in_ring h.low, h.rank) }
   where
-    in_ring : length (traded k y) ≡ n
+    in_ring : length (traded k y) ≡ T.variables
     in_ring = length-traded k y ∙ h.in_ring
 
-    low : degree (traded k y) ≤ d
+    low : degree (traded k y) ≤ T.degree
     low = omega (arith, degree-traded k y l, h.low)
 
 -- what stands in a run comes by trades from its first monomial
-in_run : (n d : ℕ) (y z : List ℕ) (r k : ℕ) → 1 ≤ n → HasRank n d y r → HasRank n d z (r + k) → k < run_of y → z ≡ traded k y
-in_run n d y z r k some h j l = one_of_rank n d z (traded k y) (r + k) j (rank_traded n d y r k some h l)
+in_run : (T : Shape) (y z : List ℕ) (r k : ℕ) → 1 ≤ T.variables → HasRank T y r → HasRank T z (r + k) → k < run_of y → z ≡ traded k y
+in_run T y z r k some h j l = one_of_rank T z (traded k y) (r + k) j (rank_traded T y r k some h l)
 
 -- a run has a monomial
 pub run_some : (m : List ℕ) → 1 ≤ run_of m
@@ -83,17 +83,17 @@ run_some (x ∷ []) = omega arith
 run_some (x ∷ y ∷ m) = omega arith
 
 -- all of a run are monomials up to the degree
-pub run_within : (n d : ℕ) (y : List ℕ) (r : ℕ) → 1 ≤ n → HasRank n d y r → r + run_of y ≤ monomial_count n d
-run_within n d y r some h = omega (arith, rank_small n d _ _ (rank_traded n d y r (run_of y - 1) some h (omega (arith, run_some y))), run_some y)
+pub run_within : (T : Shape) (y : List ℕ) (r : ℕ) → 1 ≤ T.variables → HasRank T y r → r + run_of y ≤ count T
+run_within T y r some h = omega (arith, rank_small T _ _ (rank_traded T y r (run_of y - 1) some h (omega (arith, run_some y))), run_some y)
 
 -- the monomials of a run have one degree
-pub run_degree : (n d : ℕ) (y z : List ℕ) (r k : ℕ) → 1 ≤ n → HasRank n d y r → HasRank n d z (r + k) → k < run_of y → degree z ≡ degree y
-run_degree n d y z r k some h j l = ap degree (in_run n d y z r k some h j l) ∙ degree-traded k y l
+pub run_degree : (T : Shape) (y z : List ℕ) (r k : ℕ) → 1 ≤ T.variables → HasRank T y r → HasRank T z (r + k) → k < run_of y → degree z ≡ degree y
+run_degree T y z r k some h j l = ap degree (in_run T y z r k some h j l) ∙ degree-traded k y l
 
 -- the multiples of a run by a monomial follow each other as the run does
-pub run_products : (n d : ℕ) (x y z : List ℕ) (a r k p : ℕ) → 1 ≤ n → HasRank n d x a → HasRank n d y r → HasRank n d z (r + k) → k < run_of y → HasRank n d (mono_times x y) p
-    → HasRank n d (mono_times x z) (p + k)
-run_products n d x y z a r k p some f h j l g =
+pub run_products : (T : Shape) (x y z : List ℕ) (a r k p : ℕ) → 1 ≤ T.variables → HasRank T x a → HasRank T y r → HasRank T z (r + k) → k < run_of y → HasRank T (mono_times x y) p
+    → HasRank T (mono_times x z) (p + k)
+run_products T x y z a r k p some f h j l g =
     let same : length x ≡ length y = f.in_ring ∙ sym h.in_ring in
-    subst (λ m. HasRank n d m (p + k)) (sym (ap (mono_times x) (in_run n d y z r k some h j l) ∙ times-traded k x y same l))
-    (rank_traded n d (mono_times x y) p k some g (omega (arith, run-times x y same, l)))
+    subst (λ m. HasRank T m (p + k)) (sym (ap (mono_times x) (in_run T y z r k some h j l) ∙ times-traded k x y same l))
+    (rank_traded T (mono_times x y) p k some g (omega (arith, run-times x y same, l)))

@@ -3,6 +3,7 @@
 use Rattle.std.specs.Prelude.{◌≡◌, ℕ, ◌+◌, ◌*◌, ◌%◌, ◌<◌, ◌≤◌, ◌⊎◌, ◌&&◌, List, length, Option, Some, None, cond, ltb, leb}
 use Rattle.local_order.specs.Mono.{degree, mono_times, mono_quotient, divides}
 use Rattle.local_order.specs.Count.{monomial_count}
+use Rattle.local_order.specs.Shape.{Shape}
 use Rattle.rank_algebra.specs.Ranks.{Ranks}
 use Rattle.mono_rank.specs.Rank.{rank_of, mono_of_rank}
 
@@ -31,8 +32,8 @@ pub record IsNumbering (n d : ℕ) (Above : List ℕ → List ℕ → Type 0) (O
   pub falls : (a b : List ℕ) → length a ≡ n → degree a ≤ d → length b ≡ n → degree b ≤ d → Above a b → O.rank a < O.rank b
 
 -- the numbering by rank
-abbrev pub numbering : ℕ → ℕ → Numbering
-numbering n d = record { count = monomial_count n d; mono = mono_of_rank n d; rank = rank_of n d }
+abbrev pub numbering : Shape → Numbering
+numbering T = record { count = monomial_count T.variables T.degree; mono = mono_of_rank T; rank = rank_of T }
 
 -- the rank of a product, and the number of monomials where its degree is above d
 abbrev pub rank_times : ℕ → Numbering → ℕ → ℕ → ℕ

@@ -45,7 +45,7 @@ pub(crate) fn falling(alloc: Global, n: u32, d: u32, count: u32) -> Result<Vec<M
     requires few { n ≤ 8 }
     requires low { d ≤ 255 }
     requires count { count ≡ number_of_monomials n d }
-    ensures { IfOk result (λ v. ListsRanks n d v.items) }
+    ensures { IfOk result (λ v. ListsRanks (record { variables = n; degree = d }) v.items) }
 {
     let mut all = Vec::new(alloc);
     let mut exps = vec![in alloc; 0; n as usize]?;

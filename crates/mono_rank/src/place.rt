@@ -20,7 +20,7 @@ pub(crate) fn place_of(counts: &[u64], d: u32, m: &Mono) -> u32
     requires small { monomial_count (length m.now) d ≤ 4096 }
     requires rows { length counts.now ≡ 8 * (d + 2) }
     requires counts { HasCounts counts.now }
-    ensures { result ≡ rank_of (length m.now) d m.now }
+    ensures { result ≡ rank_of (record { variables = length m.now; degree = d }) m.now }
 {
     let n = m.n();
     let mut before = u32::from(m.exp(0));

@@ -3,6 +3,7 @@
 ghost use Rattle.std.specs.Prelude.{◌≡◌, ℕ, List, ◌+◌, ◌<◌, ◌≤◌, ◌↔◌, length, IsTrue, MatchOption, MatchResult};
 ghost use Rattle.local_order.specs.Mono.{degree, mono_times, Divides};
 ghost use Rattle.local_order.specs.Count.{monomial_count};
+ghost use Rattle.local_order.specs.Shape.{Shape, count};
 ghost use Rattle.mono_rank.specs.Rank.{HasRank, fewer};
 ghost use Rattle.mono_rank.specs.Next.{run_of};
 ghost use Rattle.mono_rank.specs.Stored.{HasLimits};
@@ -40,13 +41,14 @@ pub struct RankTable {
 }
 
 impl Model for RankTable {
-    ghost use Rattle.mono_rank.specs.Stored.{Shape, IsTable};
+    ghost use Rattle.local_order.specs.Shape.{Shape};
+    ghost use Rattle.mono_rank.specs.Stored.{IsTable};
 
     ghost Value = { Shape };
 
-    ghost view = { λ t. record { n = t.n; d = t.d } };
+    ghost view = { λ t. record { variables = t.n; degree = t.d } };
 
-    ghost invariant = { λ t. IsTable t.n t.d t.monos.items t.counts.items };
+    ghost invariant = { λ t. IsTable (record { variables = t.n; degree = t.d }) t.monos.items t.counts.items };
 }
 
 impl RankTable {
@@ -56,7 +58,7 @@ impl RankTable {
         requires few { n ≤ 8 }
         requires low { d ≤ 255 }
         ensures { MatchResult result
-            (λ t. (t ≡ record { n = n; d = d }) × (monomial_count n d ≤ MAX_MONOMIALS))
+            (λ t. (t ≡ record { variables = n; degree = d }) × (monomial_count n d ≤ MAX_MONOMIALS))
             (IsRefusal n d) }
     {
         let count = count_of(n, d);
@@ -77,11 +79,27 @@ impl RankTable {
         })
     }
 
+    /// The number of variables.
+    pub fn n(&self) -> u32
+        ensures value { result ≡ self.now.variables }
+        ensures limits { HasLimits self.now }
+    {
+        self.n
+    }
+
+    /// The greatest degree.
+    pub fn d(&self) -> u32
+        ensures value { result ≡ self.now.degree }
+        ensures limits { HasLimits self.now }
+    {
+        self.d
+    }
+
     /// How many monomials there are.
     pub fn count(&self) -> u32
-        ensures value { result ≡ monomial_count self.now.n self.now.d }
+        ensures value { result ≡ count self.now }
         ensures small { result ≤ MAX_MONOMIALS }
-        ensures limits { HasLimits self.now.n self.now.d }
+        ensures limits { HasLimits self.now }
     {
         self.monos.len() as u32
     }
@@ -89,8 +107,8 @@ impl RankTable {
     /// The rank of a monomial. There is none where its degree is too great.
     /// It costs as many additions as there are variables, each of a number of a small table.
     pub fn rank(&self, m: &Mono) -> Option<u32>
-        requires { length m.now ≡ self.now.n }
-        ensures { MatchOption result (self.now.d < degree m.now) (HasRank self.now.n self.now.d m.now) }
+        requires { length m.now ≡ self.now.variables }
+        ensures { MatchOption result (self.now.degree < degree m.now) (HasRank self.now m.now) }
     {
         if m.degree() > self.d {
             return None;
@@ -100,17 +118,17 @@ impl RankTable {
 
     /// The monomial of a rank, by a look-up.
     pub fn mono(&self, rank: u32) -> Mono
-        requires { rank < monomial_count self.now.n self.now.d }
-        ensures { HasRank self.now.n self.now.d result rank }
+        requires { rank < count self.now }
+        ensures { HasRank self.now result rank }
     {
         self.monos[rank as usize]
     }
 
     /// The degree of the monomial of a rank, by a look-up.
     pub fn degree_of(&self, rank: u32) -> u32
-        requires { rank < monomial_count self.now.n self.now.d }
-        ensures value { (m : List ℕ) → HasRank self.now.n self.now.d m rank → result ≡ degree m }
-        ensures low { result ≤ self.now.d }
+        requires { rank < count self.now }
+        ensures value { (m : List ℕ) → HasRank self.now m rank → result ≡ degree m }
+        ensures low { result ≤ self.now.degree }
     {
         self.monos[rank as usize].degree()
     }
@@ -118,11 +136,11 @@ impl RankTable {
     /// The rank of the product of the monomials of two ranks. There is none where its degree is too great.
     /// It costs two look-ups, an addition for each of eight exponents, and what [`RankTable::rank`] costs.
     pub fn times_rank(&self, a: u32, b: u32) -> Option<u32>
-        requires first { a < monomial_count self.now.n self.now.d }
-        requires second { b < monomial_count self.now.n self.now.d }
-        ensures { (x y : List ℕ) → HasRank self.now.n self.now.d x a → HasRank self.now.n self.now.d y b
-            → MatchOption result (self.now.d < degree (mono_times x y))
-            (HasRank self.now.n self.now.d (mono_times x y)) }
+        requires first { a < count self.now }
+        requires second { b < count self.now }
+        ensures { (x y : List ℕ) → HasRank self.now x a → HasRank self.now y b
+            → MatchOption result (self.now.degree < degree (mono_times x y))
+            (HasRank self.now (mono_times x y)) }
     {
         let product = self.monos[a as usize].times(&self.monos[b as usize])?;
         self.rank(&product)
@@ -132,24 +150,24 @@ impl RankTable {
     /// powers of the second. They have one degree, and their products with any monomial have ranks that follow each other too, so
     /// the rank of the first product tells those of the others. It costs a look-up.
     pub fn run_from(&self, rank: u32) -> u32
-        requires { rank < monomial_count self.now.n self.now.d }
-        ensures value { (m : List ℕ) → HasRank self.now.n self.now.d m rank → result ≡ run_of m }
+        requires { rank < count self.now }
+        ensures value { (m : List ℕ) → HasRank self.now m rank → result ≡ run_of m }
         ensures some { 1 ≤ result }
-        ensures within { rank + result ≤ monomial_count self.now.n self.now.d }
-        ensures degrees { (y z : List ℕ) (k : ℕ) → k < result → HasRank self.now.n self.now.d y rank
-            → HasRank self.now.n self.now.d z (rank + k) → degree z ≡ degree y }
-        ensures products { (x y z : List ℕ) (a k r : ℕ) → k < result → HasRank self.now.n self.now.d x a
-            → HasRank self.now.n self.now.d y rank → HasRank self.now.n self.now.d z (rank + k)
-            → HasRank self.now.n self.now.d (mono_times x y) r → HasRank self.now.n self.now.d (mono_times x z) (r + k) }
+        ensures within { rank + result ≤ count self.now }
+        ensures degrees { (y z : List ℕ) (k : ℕ) → k < result → HasRank self.now y rank
+            → HasRank self.now z (rank + k) → degree z ≡ degree y }
+        ensures products { (x y z : List ℕ) (a k r : ℕ) → k < result → HasRank self.now x a
+            → HasRank self.now y rank → HasRank self.now z (rank + k)
+            → HasRank self.now (mono_times x y) r → HasRank self.now (mono_times x z) (r + k) }
     {
         run_length(&self.monos[rank as usize])
     }
 
     /// Whether the monomial of rank `a` divides that of rank `b`.
     pub fn divides_rank(&self, a: u32, b: u32) -> bool
-        requires first { a < monomial_count self.now.n self.now.d }
-        requires second { b < monomial_count self.now.n self.now.d }
-        ensures { (x y : List ℕ) → HasRank self.now.n self.now.d x a → HasRank self.now.n self.now.d y b
+        requires first { a < count self.now }
+        requires second { b < count self.now }
+        ensures { (x y : List ℕ) → HasRank self.now x a → HasRank self.now y b
             → IsTrue result ↔ Divides x y }
     {
         self.monos[a as usize].divides(&self.monos[b as usize])
@@ -157,9 +175,9 @@ impl RankTable {
 
     /// How many monomials have a degree below `d`: the rank of the first of degree `d`.
     pub fn first_of_degree(&self, d: u32) -> u32
-        requires { d ≤ self.now.d }
-        ensures value { result ≡ fewer self.now.n d }
-        ensures small { result < monomial_count self.now.n self.now.d }
+        requires { d ≤ self.now.degree }
+        ensures value { result ≡ fewer self.now.variables d }
+        ensures small { result < count self.now }
     {
         self.counts[(8 * d + self.n - 1) as usize] as u32
     }

@@ -4,7 +4,8 @@ use Rattle.std.proofs.Common.{◌≡◌, ℕ, zero, suc, ◌+◌, ◌-◌, ◌*�
 use Rattle.std.proofs.lemmas.Option.{slice_get_within, get_or_from_slice_get}
 use Rattle.prime_field.specs.Prime.{InTable}
 use Rattle.prime_field.proofs.Primality.{IsPrime-table}
-use Rattle.local_order.specs.Count.{monomial_count}
+use Rattle.local_order.specs.Shape.{Shape, count}
+use Rattle.sparse_poly.specs.Shape.{shape_of}
 use Rattle.mono_rank.specs.Rank.{mono_of_rank}
 use Rattle.mono_rank.specs.Laws.{numbering, rank_cofactor}
 use Rattle.mono_rank.proofs.ByRank.{rank-mono_of_rank}
@@ -55,22 +56,22 @@ generator_is P n g gens f h e k l =
     }
 
 -- the row of a generator is its vector
-pub generator_row : (P : Problem) (n d g : ℕ) (f : Poly) (r : List ℕ) → 1 ≤ n → P.n ≡ n → P.d ≡ d → f ≡ get_or P.gens g [] → IsRowOf P.p n d f r
-    → Agree (ranks_of_problem P) (monomial_count n d) (vector_of_row r) (vector_of P (get_or P.gens g []))
-generator_row P n d g f r some e k q h = record {
+pub generator_row : (P : Problem) (T : Shape) (g : ℕ) (f : Poly) (r : List ℕ) → 1 ≤ T.variables → shape_of P ≡ T → f ≡ get_or P.gens g [] → IsRowOf P.p T f r
+    → Agree (ranks_of_problem P) (count T) (vector_of_row r) (vector_of P (get_or P.gens g []))
+generator_row P T g f r some e q h = record {
   at = λ x l. subst (λ p. Same p (get_or r x 0) (total (get_or P.gens g []) ((numbering_of P).mono x))) (sym (ranks_p P))
-      (same_trans (same_of P.p _ _ (h.coefs (mono_of_rank n d x) x (rank-mono_of_rank n d x some l))) (same_trans (same_mod P.p (total f (mono_of_rank n d x)))
-      (same_of P.p _ _ (ap₂ total q (ap₂ (λ a b. mono_of_rank a b x) (sym e) (sym k) ∙ sym (mono_is P x))))));
+      (same_trans (same_of P.p _ _ (h.coefs (mono_of_rank T x) x (rank-mono_of_rank T x some l))) (same_trans (same_mod P.p (total f (mono_of_rank T x)))
+      (same_of P.p _ _ (ap₂ total q (ap (λ (M : Shape). mono_of_rank M x) (sym e) ∙ sym (mono_is P x))))));
 }
 
 -- ---- pairs
 -- 0 less -1 times a multiple of f, less a multiple of g, is the multiple of f less that of g
-pub pair_row : (p n d : ℕ) → InTable p → 1 ≤ n → (c a b : ℕ) (f g none first new : List ℕ) → c ≡ (p - 1) % p → a < monomial_count n d → b < monomial_count n d → ((k : ℕ) → get_or none k 0 ≡ 0)
-    → SubtractsMultiple p n d c a f none first → SubtractsMultiple p n d 1 b g first new
-    → Agree (ring p n d) (ring p n d).n (vector_of_row new) (less (ring p n d) 1 (shift (ring p n d) b (vector_of_row g)) (shift (ring p n d) a (vector_of_row f)))
-pair_row p n d t some c a b f g none first new ce la lb z h k =
-    agree_trans (subtract_vector p n d t some 1 b g first new (omega (arith, two)) lb k)
-    (record { at = λ x l. same_add (same_trans ((subtract_vector p n d t some c a f none first c_small la h).at x l) (start x)) (same_refl (ring p n d).p _) })
+pub pair_row : (p : ℕ) (T : Shape) → InTable p → 1 ≤ T.variables → (c a b : ℕ) (f g none first new : List ℕ) → c ≡ (p - 1) % p → a < count T → b < count T → ((k : ℕ) → get_or none k 0 ≡ 0)
+    → SubtractsMultiple p T c a f none first → SubtractsMultiple p T 1 b g first new
+    → Agree (ring p T) (ring p T).n (vector_of_row new) (less (ring p T) 1 (shift (ring p T) b (vector_of_row g)) (shift (ring p T) a (vector_of_row f)))
+pair_row p T t some c a b f g none first new ce la lb z h k =
+    agree_trans (subtract_vector p T t some 1 b g first new (omega (arith, two)) lb k)
+    (record { at = λ x l. same_add (same_trans ((subtract_vector p T t some c a f none first c_small la h).at x l) (start x)) (same_refl (ring p T).p _) })
   where
     two : 2 ≤ p
     two = let prime = IsPrime-table p t in prime.two_up
@@ -84,31 +85,31 @@ pair_row p n d t some c a b f g none first new ce la lb z h k =
     c_small : c < p
     c_small = omega (arith, c_is, two)
 
-    start : (x : ℕ) → Same (ring p n d).p (get_or none x 0 + ((ring p n d).p - 1) * c * shift (ring p n d) a (vector_of_row f) x) (shift (ring p n d) a (vector_of_row f) x)
+    start : (x : ℕ) → Same (ring p T).p (get_or none x 0 + ((ring p T).p - 1) * c * shift (ring p T) a (vector_of_row f) x) (shift (ring p T) a (vector_of_row f) x)
     start x =
-        same_trans (same_of (ring p n d).p _ _ (turn (get_or none x 0) ((ring p n d).p - 1) c (shift (ring p n d) a (vector_of_row f) x) (z x) (c_is ∙ ap (λ q. q - 1) (sym (ring_p p n d)))))
-        (same_minus_minus (ring p n d).p (shift (ring p n d) a (vector_of_row f) x) (omega (arith, ring_p p n d, two)))
+        same_trans (same_of (ring p T).p _ _ (turn (get_or none x 0) ((ring p T).p - 1) c (shift (ring p T) a (vector_of_row f) x) (z x) (c_is ∙ ap (λ q. q - 1) (sym (ring_p p T)))))
+        (same_minus_minus (ring p T).p (shift (ring p T) a (vector_of_row f) x) (omega (arith, ring_p p T, two)))
       where
         turn : (y m c s : ℕ) → y ≡ 0 → c ≡ m → y + m * c * s ≡ m * (m * s)
         turn y m c s e f = ap₂ (λ u v. u + m * v * s) e f ∙ omega arith
 
 -- the difference of the multiples by the two cofactors is the S-pair from which the run of a pair begins
-pub pair_is : (P : Problem) (p n d : ℕ) → P.p ≡ p → P.n ≡ n → P.d ≡ d → (rows : List (List ℕ)) (summaries : List Summary) (i j a b : ℕ) (f g new : List ℕ) → f ≡ row_at rows i → g ≡ row_at rows j
-    → rank_cofactor (numbering n d) (summary_at summaries i).lead (summary_at summaries j).lead ≡ a → rank_cofactor (numbering n d) (summary_at summaries j).lead (summary_at summaries i).lead ≡ b
-    → Agree (ring p n d) (ring p n d).n (vector_of_row new) (less (ring p n d) 1 (shift (ring p n d) b (vector_of_row g)) (shift (ring p n d) a (vector_of_row f)))
-    → Agree (ranks_of_problem P) (monomial_count n d) (vector_of_row new) (start_of (ranks_of_problem P) (generators_of P) (basis_in rows summaries) (Pair i j))
-pair_is P p n d e k l rows summaries i j a b f g new fe ge ae be h =
-    subst (λ R. Agree R (monomial_count n d) (vector_of_row new) (pair R (basis_in rows summaries) i j)) (sym same)
-    (subst (λ w. Agree (ring p n d) w (vector_of_row new) (pair (ring p n d) (basis_in rows summaries) i j)) (ring_count p n d)
-    (subst (λ x. Agree (ring p n d) (ring p n d).n (vector_of_row new) (less (ring p n d) 1 (shift (ring p n d) x (vector_of_row (row_at rows j))) (shift (ring p n d) ((ring p n d).cofactor (summary_at summaries i).lead (summary_at summaries j).lead) (vector_of_row (row_at rows i)))))
-    (sym be ∙ sym (ring_cofactor p n d _ _))
-    (subst (λ x. Agree (ring p n d) (ring p n d).n (vector_of_row new) (less (ring p n d) 1 (shift (ring p n d) b (vector_of_row (row_at rows j))) (shift (ring p n d) x (vector_of_row (row_at rows i)))))
-    (sym ae ∙ sym (ring_cofactor p n d _ _))
-    (subst (λ x. Agree (ring p n d) (ring p n d).n (vector_of_row new) (less (ring p n d) 1 (shift (ring p n d) b (vector_of_row x)) (shift (ring p n d) a (vector_of_row (row_at rows i))))) ge
-    (subst (λ x. Agree (ring p n d) (ring p n d).n (vector_of_row new) (less (ring p n d) 1 (shift (ring p n d) b (vector_of_row g)) (shift (ring p n d) a (vector_of_row x)))) fe h)))))
+pub pair_is : (P : Problem) (p : ℕ) (T : Shape) → P.p ≡ p → shape_of P ≡ T → (rows : List (List ℕ)) (summaries : List Summary) (i j a b : ℕ) (f g new : List ℕ) → f ≡ row_at rows i → g ≡ row_at rows j
+    → rank_cofactor (numbering T) (summary_at summaries i).lead (summary_at summaries j).lead ≡ a → rank_cofactor (numbering T) (summary_at summaries j).lead (summary_at summaries i).lead ≡ b
+    → Agree (ring p T) (ring p T).n (vector_of_row new) (less (ring p T) 1 (shift (ring p T) b (vector_of_row g)) (shift (ring p T) a (vector_of_row f)))
+    → Agree (ranks_of_problem P) (count T) (vector_of_row new) (start_of (ranks_of_problem P) (generators_of P) (basis_in rows summaries) (Pair i j))
+pair_is P p T e k rows summaries i j a b f g new fe ge ae be h =
+    subst (λ R. Agree R (count T) (vector_of_row new) (pair R (basis_in rows summaries) i j)) (sym same)
+    (subst (λ w. Agree (ring p T) w (vector_of_row new) (pair (ring p T) (basis_in rows summaries) i j)) (ring_count p T)
+    (subst (λ x. Agree (ring p T) (ring p T).n (vector_of_row new) (less (ring p T) 1 (shift (ring p T) x (vector_of_row (row_at rows j))) (shift (ring p T) ((ring p T).cofactor (summary_at summaries i).lead (summary_at summaries j).lead) (vector_of_row (row_at rows i)))))
+    (sym be ∙ sym (ring_cofactor p T _ _))
+    (subst (λ x. Agree (ring p T) (ring p T).n (vector_of_row new) (less (ring p T) 1 (shift (ring p T) b (vector_of_row (row_at rows j))) (shift (ring p T) x (vector_of_row (row_at rows i)))))
+    (sym ae ∙ sym (ring_cofactor p T _ _))
+    (subst (λ x. Agree (ring p T) (ring p T).n (vector_of_row new) (less (ring p T) 1 (shift (ring p T) b (vector_of_row x)) (shift (ring p T) a (vector_of_row (row_at rows i))))) ge
+    (subst (λ x. Agree (ring p T) (ring p T).n (vector_of_row new) (less (ring p T) 1 (shift (ring p T) b (vector_of_row g)) (shift (ring p T) a (vector_of_row x)))) fe h)))))
   where
-    same : ranks_of_problem P ≡ ring p n d
-    same = ring_of_problem P ∙ ap (λ x. ring x P.n P.d) e ∙ ap₂ (ring p) k l
+    same : ranks_of_problem P ≡ ring p T
+    same = ring_of_problem P ∙ ap (λ x. ring x (shape_of P)) e ∙ ap (ring p) k
 
 -- the row at a place
 pub got_row : (rows : List (List ℕ)) (i : ℕ) (r : List ℕ) → slice_get rows i ≡ Some r → (i < length rows) × (r ≡ row_at rows i)

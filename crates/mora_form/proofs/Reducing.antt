@@ -5,7 +5,7 @@ use Rattle.std.proofs.lemmas.Bool.{cases_lt}
 use Rattle.std.proofs.lemmas.List.{get_or_default, get_or_push, length-append, length-map, get_or-append_right, get_or_append_left, map-append, get_or-map}
 use Rattle.prime_field.specs.Prime.{InTable}
 use Rattle.local_order.specs.Mono.{Divides}
-use Rattle.local_order.specs.Count.{monomial_count}
+use Rattle.local_order.specs.Shape.{Shape, count}
 use Rattle.mono_rank.specs.Rank.{mono_of_rank}
 use Rattle.mono_rank.specs.Laws.{numbering, rank_quotient}
 use Rattle.rank_algebra.specs.Ranks.{Ranks}
@@ -52,50 +52,50 @@ pub alike_refl : (R : Ranks) (gs : List Vector) → AllAlike R gs gs
 alike_refl R [] = tt
 alike_refl R (g ∷ gs) = (agree_refl R R.n g, alike_refl R gs)
 
-module _ (p n d : ℕ) (t : InTable p) (some : 1 ≤ n) (r : ℕ) (low : r < monomial_count n d) where
+module _ (p : ℕ) (M : Shape) (t : InTable p) (some : 1 ≤ M.variables) (r : ℕ) (low : r < count M) where
   -- ---- one reducer
-  module _ (row : List ℕ) (s : Summary) (w : IsRow p (monomial_count n d) row) (h : IsSummaryOf n d row s) where
+  module _ (row : List ℕ) (s : Summary) (w : IsRow p (count M) row) (h : IsSummaryOf M row s) where
     -- the lead is the rank of a monomial
-    lead_small : s.lead < monomial_count n d
+    lead_small : s.lead < count M
     lead_small = omega (arith, h.begins.within, w.full)
 
     -- the row is a reducer where its lead divides
-    by_lead : reducer (ring p n d) r (vector_of_row row) ≡ reducer_by (vector_of_row row) s.lead ((ring p n d).quotient r s.lead)
-    by_lead = ap (reducer_at (ring p n d) r (vector_of_row row)) (lead_of_row p n d t some row s.lead w h.begins)
+    by_lead : reducer (ring p M) r (vector_of_row row) ≡ reducer_by (vector_of_row row) s.lead ((ring p M).quotient r s.lead)
+    by_lead = ap (reducer_at (ring p M) r (vector_of_row row)) (lead_of_row p M t some row s.lead w h.begins)
 
     -- the row is the reducer with the quotient of r by its lead as cofactor
-    reducer_is : (q : ℕ) → rank_quotient (numbering n d) r s.lead ≡ Some q → reducer (ring p n d) r (vector_of_row row) ≡ Some (record { poly = vector_of_row row; lead = s.lead; cofactor = q })
-    reducer_is q e = by_lead ∙ ap (reducer_by (vector_of_row row) s.lead) (ring_quotient p n d r s.lead ∙ e)
+    reducer_is : (q : ℕ) → rank_quotient (numbering M) r s.lead ≡ Some q → reducer (ring p M) r (vector_of_row row) ≡ Some (record { poly = vector_of_row row; lead = s.lead; cofactor = q })
+    reducer_is q e = by_lead ∙ ap (reducer_by (vector_of_row row) s.lead) (ring_quotient p M r s.lead ∙ e)
 
     -- where the lead divides there is a quotient
-    quotients : Divides (mono_of_rank n d s.lead) (mono_of_rank n d r) → (q : ℕ) × (rank_quotient (numbering n d) r s.lead ≡ Some q)
-    quotients e = (quotient_of_ranks n d (mono_of_rank n d s.lead) (mono_of_rank n d r) s.lead r (rank-mono_of_rank n d s.lead some lead_small) (rank-mono_of_rank n d r some low)).0 e
+    quotients : Divides (mono_of_rank M s.lead) (mono_of_rank M r) → (q : ℕ) × (rank_quotient (numbering M) r s.lead ≡ Some q)
+    quotients e = (quotient_of_ranks M (mono_of_rank M s.lead) (mono_of_rank M r) s.lead r (rank-mono_of_rank M s.lead some lead_small) (rank-mono_of_rank M r some low)).0 e
 
     -- where there is a quotient the lead divides
-    divided : (q : ℕ) → rank_quotient (numbering n d) r s.lead ≡ Some q → Divides (mono_of_rank n d s.lead) (mono_of_rank n d r)
-    divided q e = (quotient_of_ranks n d (mono_of_rank n d s.lead) (mono_of_rank n d r) s.lead r (rank-mono_of_rank n d s.lead some lead_small) (rank-mono_of_rank n d r some low)).1 (q, e)
+    divided : (q : ℕ) → rank_quotient (numbering M) r s.lead ≡ Some q → Divides (mono_of_rank M s.lead) (mono_of_rank M r)
+    divided q e = (quotient_of_ranks M (mono_of_rank M s.lead) (mono_of_rank M r) s.lead r (rank-mono_of_rank M s.lead some lead_small) (rank-mono_of_rank M r some low)).1 (q, e)
 
     -- where the lead doesn't divide, the row is no reducer
-    reducer_none : (Divides (mono_of_rank n d s.lead) (mono_of_rank n d r) → ⊥) → reducer (ring p n d) r (vector_of_row row) ≡ None
-    reducer_none never = by_lead ∙ go ((ring p n d).quotient r s.lead) (sym (ring_quotient p n d r s.lead))
+    reducer_none : (Divides (mono_of_rank M s.lead) (mono_of_rank M r) → ⊥) → reducer (ring p M) r (vector_of_row row) ≡ None
+    reducer_none never = by_lead ∙ go ((ring p M).quotient r s.lead) (sym (ring_quotient p M r s.lead))
       where
-        go : (o : Option ℕ) → rank_quotient (numbering n d) r s.lead ≡ o → reducer_by (vector_of_row row) s.lead o ≡ None
+        go : (o : Option ℕ) → rank_quotient (numbering M) r s.lead ≡ o → reducer_by (vector_of_row row) s.lead o ≡ None
         go None e = refl
         go (Some q) e = absurd (never (divided q e))
 
     -- what is known of a reducer
-    reducer_tells : (x : Reducer) → reducer (ring p n d) r (vector_of_row row) ≡ Some x → Divides (mono_of_rank n d s.lead) (mono_of_rank n d r) × (ecart (ring p n d) x.poly ≡ ecart_of s)
-    reducer_tells x e = go ((ring p n d).quotient r s.lead) (sym (ring_quotient p n d r s.lead)) (sym by_lead ∙ e)
+    reducer_tells : (x : Reducer) → reducer (ring p M) r (vector_of_row row) ≡ Some x → Divides (mono_of_rank M s.lead) (mono_of_rank M r) × (ecart (ring p M) x.poly ≡ ecart_of s)
+    reducer_tells x e = go ((ring p M).quotient r s.lead) (sym (ring_quotient p M r s.lead)) (sym by_lead ∙ e)
       where
-        go : (o : Option ℕ) → rank_quotient (numbering n d) r s.lead ≡ o → reducer_by (vector_of_row row) s.lead o ≡ Some x → Divides (mono_of_rank n d s.lead) (mono_of_rank n d r) × (ecart (ring p n d) x.poly ≡ ecart_of s)
+        go : (o : Option ℕ) → rank_quotient (numbering M) r s.lead ≡ o → reducer_by (vector_of_row row) s.lead o ≡ Some x → Divides (mono_of_rank M s.lead) (mono_of_rank M r) × (ecart (ring p M) x.poly ≡ ecart_of s)
         go None f g = absurd (cc g)
-        go (Some q) f g = (divided q f, ap (λ v. ecart (ring p n d) v) (poly g) ∙ ecart_of_row p n d row w t some s h)
+        go (Some q) f g = (divided q f, ap (λ v. ecart (ring p M) v) (poly g) ∙ ecart_of_row p M row w t some s h)
           where
             poly : Some (record { poly = vector_of_row row; lead = s.lead; cofactor = q }) ≡ Some x → x.poly ≡ vector_of_row row
             poly g = let same : record { poly = vector_of_row row; lead = s.lead; cofactor = q } ≡ x = cc g in ap (λ y. y.poly) (sym same)
 
   -- ---- the candidates
-  module _ (K T : List (List ℕ)) (S U : List Summary) (wK : AreRows p (monomial_count n d) K) (wT : AreRows p (monomial_count n d) T) (hK : AreSummarized n d K S) (hT : AreSummarized n d T U) where
+  module _ (K T : List (List ℕ)) (S U : List Summary) (wK : AreRows p (count M) K) (wT : AreRows p (count M) T) (hK : AreSummarized M K S) (hT : AreSummarized M T U) where
     -- the known rows and behind them the intermediates, as vectors
     abbrev candidates : List Vector
     candidates = firsts (length K) 0 (entry_vector K) ++ map vector_of_row T
@@ -120,20 +120,20 @@ module _ (p n d : ℕ) (t : InTable p) (some : 1 ≤ n) (r : ℕ) (low : r < mon
     size = length-append (firsts (length K) 0 (entry_vector K)) (map vector_of_row T) ∙ ap₂ (λ a b. a + b) (ap length (firsts_map K) ∙ length-map K vector_of_row) (length-map T vector_of_row)
 
     -- a known row whose lead doesn't divide is no reducer
-    known_none : (i : ℕ) → i < length K → (Divides (mono_of_rank n d (summary_at S i).lead) (mono_of_rank n d r) → ⊥) → reducer (ring p n d) r (vector_at candidates i) ≡ None
-    known_none i l never = ap (reducer (ring p n d) r) (known_at i l) ∙ reducer_none (row_at K i) (summary_at S i) (wK i l) (hK.each i l) never
+    known_none : (i : ℕ) → i < length K → (Divides (mono_of_rank M (summary_at S i).lead) (mono_of_rank M r) → ⊥) → reducer (ring p M) r (vector_at candidates i) ≡ None
+    known_none i l never = ap (reducer (ring p M) r) (known_at i l) ∙ reducer_none (row_at K i) (summary_at S i) (wK i l) (hK.each i l) never
 
     -- an intermediate whose lead doesn't divide is no reducer
-    kept_none : (k : ℕ) → k < length T → (Divides (mono_of_rank n d (summary_at U k).lead) (mono_of_rank n d r) → ⊥) → reducer (ring p n d) r (vector_at candidates (length K + k)) ≡ None
-    kept_none k l never = ap (reducer (ring p n d) r) (kept_at k l) ∙ reducer_none (row_at T k) (summary_at U k) (wT k l) (hT.each k l) never
+    kept_none : (k : ℕ) → k < length T → (Divides (mono_of_rank M (summary_at U k).lead) (mono_of_rank M r) → ⊥) → reducer (ring p M) r (vector_at candidates (length K + k)) ≡ None
+    kept_none k l never = ap (reducer (ring p M) r) (kept_at k l) ∙ reducer_none (row_at T k) (summary_at U k) (wT k l) (hT.each k l) never
 
     -- the lead of a known row that is a reducer divides, and its ecart is that of the summary
-    known_tells : (i : ℕ) (x : Reducer) → i < length K → reducer (ring p n d) r (vector_at candidates i) ≡ Some x → Divides (mono_of_rank n d (summary_at S i).lead) (mono_of_rank n d r) × (ecart (ring p n d) x.poly ≡ ecart_of (summary_at S i))
-    known_tells i x l e = reducer_tells (row_at K i) (summary_at S i) (wK i l) (hK.each i l) x (sym (ap (reducer (ring p n d) r) (known_at i l)) ∙ e)
+    known_tells : (i : ℕ) (x : Reducer) → i < length K → reducer (ring p M) r (vector_at candidates i) ≡ Some x → Divides (mono_of_rank M (summary_at S i).lead) (mono_of_rank M r) × (ecart (ring p M) x.poly ≡ ecart_of (summary_at S i))
+    known_tells i x l e = reducer_tells (row_at K i) (summary_at S i) (wK i l) (hK.each i l) x (sym (ap (reducer (ring p M) r) (known_at i l)) ∙ e)
 
     -- the lead of an intermediate that is a reducer divides, and its ecart is that of the summary
-    kept_tells : (k : ℕ) (x : Reducer) → k < length T → reducer (ring p n d) r (vector_at candidates (length K + k)) ≡ Some x → Divides (mono_of_rank n d (summary_at U k).lead) (mono_of_rank n d r) × (ecart (ring p n d) x.poly ≡ ecart_of (summary_at U k))
-    kept_tells k x l e = reducer_tells (row_at T k) (summary_at U k) (wT k l) (hT.each k l) x (sym (ap (reducer (ring p n d) r) (kept_at k l)) ∙ e)
+    kept_tells : (k : ℕ) (x : Reducer) → k < length T → reducer (ring p M) r (vector_at candidates (length K + k)) ≡ Some x → Divides (mono_of_rank M (summary_at U k).lead) (mono_of_rank M r) × (ecart (ring p M) x.poly ≡ ecart_of (summary_at U k))
+    kept_tells k x l e = reducer_tells (row_at T k) (summary_at U k) (wT k l) (hT.each k l) x (sym (ap (reducer (ring p M) r) (kept_at k l)) ∙ e)
 
     -- a place is that of an entry or of an intermediate
     split : (P : ℕ → Type 0) → ((i : ℕ) → i < length K → P i) → ((k : ℕ) → k < length T → P (length K + k)) → (j : ℕ) → j < length K + length T → P j
@@ -144,33 +144,33 @@ module _ (p n d : ℕ) (t : InTable p) (some : 1 ≤ n) (r : ℕ) (low : r < mon
         go (inr m) = let e : length K + (j - length K) ≡ j = omega (arith, m) in subst P e (g (j - length K) (omega (arith, l, m)))
 
     -- where nothing is chosen the definition chooses nothing
-    pub none_is : IsNoChoice n d S U r → choose (ring p n d) r candidates ≡ None
-    none_is h = none_chosen (ring p n d) r candidates (λ j l. split (λ j. reducer (ring p n d) r (vector_at candidates j) ≡ None)
+    pub none_is : IsNoChoice M S U r → choose (ring p M) r candidates ≡ None
+    none_is h = none_chosen (ring p M) r candidates (λ j l. split (λ j. reducer (ring p M) r (vector_at candidates j) ≡ None)
         (λ i m. known_none i m (h.none_of_list i (omega (arith, m, hK.beside)))) (λ k m. kept_none k m (h.none_of_kept k (omega (arith, m, hT.beside)))) j (omega (arith, l, size)))
 
     -- a choice is one of the members
-    pub there_is : (c : Choice) → IsChoice n d S U r c → IsThere (length S) (length U) c
+    pub there_is : (c : Choice) → IsChoice M S U r c → IsThere (length S) (length U) c
     there_is (Entry i) h = h.least.within
     there_is (Kept k) h = h.least.within
 
     -- the lead of what is chosen divides
-    pub divides_is : (c : Choice) → IsChoice n d S U r c → Divides (mono_of_rank n d (chosen_summary S U c).lead) (mono_of_rank n d r)
+    pub divides_is : (c : Choice) → IsChoice M S U r c → Divides (mono_of_rank M (chosen_summary S U c).lead) (mono_of_rank M r)
     divides_is (Entry i) h = h.least.reduces
     divides_is (Kept k) h = h.least.reduces
 
     -- what is chosen is a row of residues with its summary
-    pub chosen_row_is : (c : Choice) → IsThere (length S) (length U) c → IsRow p (monomial_count n d) (chosen_row K T c) × IsSummaryOf n d (chosen_row K T c) (chosen_summary S U c)
+    pub chosen_row_is : (c : Choice) → IsThere (length S) (length U) c → IsRow p (count M) (chosen_row K T c) × IsSummaryOf M (chosen_row K T c) (chosen_summary S U c)
     chosen_row_is (Entry i) l = (wK i (omega (arith, l, hK.beside)), hK.each i (omega (arith, l, hK.beside)))
     chosen_row_is (Kept k) l = (wT k (omega (arith, l, hT.beside)), hT.each k (omega (arith, l, hT.beside)))
 
     -- what is chosen is what the definition chooses
-    pub chosen_is : (c : Choice) → IsChoice n d S U r c → (q : ℕ) → rank_quotient (numbering n d) r (chosen_summary S U c).lead ≡ Some q
-        → choose (ring p n d) r candidates ≡ Some (record { poly = vector_of_row (chosen_row K T c); lead = (chosen_summary S U c).lead; cofactor = q })
-    chosen_is (Entry i) h q e = least_chosen (ring p n d) r candidates i (record { poly = vector_of_row (row_at K i); lead = (summary_at S i).lead; cofactor = q }) (record {
+    pub chosen_is : (c : Choice) → IsChoice M S U r c → (q : ℕ) → rank_quotient (numbering M) r (chosen_summary S U c).lead ≡ Some q
+        → choose (ring p M) r candidates ≡ Some (record { poly = vector_of_row (chosen_row K T c); lead = (chosen_summary S U c).lead; cofactor = q })
+    chosen_is (Entry i) h q e = least_chosen (ring p M) r candidates i (record { poly = vector_of_row (row_at K i); lead = (summary_at S i).lead; cofactor = q }) (record {
       within = omega (arith, l, size);
-      is = ap (reducer (ring p n d) r) (known_at i l) ∙ reducer_is (row_at K i) (summary_at S i) (wK i l) (hK.each i l) q e;
+      is = ap (reducer (ring p M) r) (known_at i l) ∙ reducer_is (row_at K i) (summary_at S i) (wK i l) (hK.each i l) q e;
       before = λ j x m f. let w = known_tells j x (omega (arith, l, m)) f in omega (arith, own, w.1, h.least.first j m w.0);
-      behind = λ j x o m f. split (λ j. reducer (ring p n d) r (vector_at candidates j) ≡ Some x → ecart (ring p n d) (vector_of_row (row_at K i)) ≤ ecart (ring p n d) x.poly)
+      behind = λ j x o m f. split (λ j. reducer (ring p M) r (vector_at candidates j) ≡ Some x → ecart (ring p M) (vector_of_row (row_at K i)) ≤ ecart (ring p M) x.poly)
           (λ j m f. let w = known_tells j x m f in omega (arith, own, w.1, h.least.least j (omega (arith, m, hK.beside)) w.0))
           (λ k m f. let w = kept_tells k x m f in omega (arith, own, w.1, h.over_kept k (omega (arith, m, hT.beside)) w.0))
           j (omega (arith, m, size)) f;
@@ -179,16 +179,16 @@ module _ (p n d : ℕ) (t : InTable p) (some : 1 ≤ n) (r : ℕ) (low : r < mon
         l : i < length K
         l = omega (arith, h.least.within, hK.beside)
 
-        own : ecart (ring p n d) (vector_of_row (row_at K i)) ≡ ecart_of (summary_at S i)
-        own = ecart_of_row p n d (row_at K i) (wK i (omega (arith, h.least.within, hK.beside))) t some (summary_at S i) (hK.each i (omega (arith, h.least.within, hK.beside)))
-    chosen_is (Kept i) h q e = least_chosen (ring p n d) r candidates (length K + i) (record { poly = vector_of_row (row_at T i); lead = (summary_at U i).lead; cofactor = q }) (record {
+        own : ecart (ring p M) (vector_of_row (row_at K i)) ≡ ecart_of (summary_at S i)
+        own = ecart_of_row p M (row_at K i) (wK i (omega (arith, h.least.within, hK.beside))) t some (summary_at S i) (hK.each i (omega (arith, h.least.within, hK.beside)))
+    chosen_is (Kept i) h q e = least_chosen (ring p M) r candidates (length K + i) (record { poly = vector_of_row (row_at T i); lead = (summary_at U i).lead; cofactor = q }) (record {
       within = omega (arith, l, size);
-      is = ap (reducer (ring p n d) r) (kept_at i l) ∙ reducer_is (row_at T i) (summary_at U i) (wT i l) (hT.each i l) q e;
-      before = λ j x m f. split (λ j. j < length K + i → reducer (ring p n d) r (vector_at candidates j) ≡ Some x → ecart (ring p n d) (vector_of_row (row_at T i)) < ecart (ring p n d) x.poly)
+      is = ap (reducer (ring p M) r) (kept_at i l) ∙ reducer_is (row_at T i) (summary_at U i) (wT i l) (hT.each i l) q e;
+      before = λ j x m f. split (λ j. j < length K + i → reducer (ring p M) r (vector_at candidates j) ≡ Some x → ecart (ring p M) (vector_of_row (row_at T i)) < ecart (ring p M) x.poly)
           (λ j m o f. let w = known_tells j x m f in omega (arith, own, w.1, h.over_list j (omega (arith, m, hK.beside)) w.0))
           (λ k m o f. let w = kept_tells k x m f in omega (arith, own, w.1, h.least.first k (omega (arith, o)) w.0))
           j (omega (arith, m, l)) m f;
-      behind = λ j x o m f. split (λ j. reducer (ring p n d) r (vector_at candidates j) ≡ Some x → ecart (ring p n d) (vector_of_row (row_at T i)) ≤ ecart (ring p n d) x.poly)
+      behind = λ j x o m f. split (λ j. reducer (ring p M) r (vector_at candidates j) ≡ Some x → ecart (ring p M) (vector_of_row (row_at T i)) ≤ ecart (ring p M) x.poly)
           (λ j m f. let w = known_tells j x m f in omega (arith, own, w.1, h.over_list j (omega (arith, m, hK.beside)) w.0))
           (λ k m f. let w = kept_tells k x m f in omega (arith, own, w.1, h.least.least k (omega (arith, m, hT.beside)) w.0))
           j (omega (arith, m, size)) f;
@@ -197,8 +197,8 @@ module _ (p n d : ℕ) (t : InTable p) (some : 1 ≤ n) (r : ℕ) (low : r < mon
         l : i < length T
         l = omega (arith, h.least.within, hT.beside)
 
-        own : ecart (ring p n d) (vector_of_row (row_at T i)) ≡ ecart_of (summary_at U i)
-        own = ecart_of_row p n d (row_at T i) (wT i (omega (arith, h.least.within, hT.beside))) t some (summary_at U i) (hT.each i (omega (arith, h.least.within, hT.beside)))
+        own : ecart (ring p M) (vector_of_row (row_at T i)) ≡ ecart_of (summary_at U i)
+        own = ecart_of_row p M (row_at T i) (wT i (omega (arith, h.least.within, hT.beside))) t some (summary_at U i) (hT.each i (omega (arith, h.least.within, hT.beside)))
 
     -- ---- the step
     -- a row put behind the intermediates is a vector put behind their vectors
@@ -207,40 +207,40 @@ module _ (p n d : ℕ) (t : InTable p) (some : 1 ≤ n) (r : ℕ) (low : r < mon
     keep_is false row = refl
 
     -- where nothing is chosen the step of the definition is stuck
-    pub stuck_is : (row : List ℕ) → IsNoChoice n d S U r → IsStepOn p n d K T row r T row false
-    stuck_is row h = subst (λ o. RunAlike (ring p n d) (record { end = Some Stuck; poly = vector_of_row row; kept = map vector_of_row T }) (reduce (ring p n d) (map vector_of_row T) (vector_of_row row) r o)) (sym (none_is h))
-        (record { end = refl; poly = agree_refl (ring p n d) (ring p n d).n (vector_of_row row); kept = alike_refl (ring p n d) (map vector_of_row T) })
+    pub stuck_is : (row : List ℕ) → IsNoChoice M S U r → IsStepOn p M K T row r T row false
+    stuck_is row h = subst (λ o. RunAlike (ring p M) (record { end = Some Stuck; poly = vector_of_row row; kept = map vector_of_row T }) (reduce (ring p M) (map vector_of_row T) (vector_of_row row) r o)) (sym (none_is h))
+        (record { end = refl; poly = agree_refl (ring p M) (ring p M).n (vector_of_row row); kept = alike_refl (ring p M) (map vector_of_row T) })
 
     -- where a row is chosen, what is subtracted and kept is what the definition subtracts and keeps
-    pub step_is : (c : Choice) → IsChoice n d S U r c → (row new : List ℕ) (own : Summary) → IsRow p (monomial_count n d) row → IsSummaryOf n d row own → (kept : List (List ℕ))
-        → kept ≡ with_kept own (chosen_summary S U c) T row → IsReduced p n d (chosen_row K T c) (chosen_summary S U c).lead row r new → IsStepOn p n d K T row r kept new true
+    pub step_is : (c : Choice) → IsChoice M S U r c → (row new : List ℕ) (own : Summary) → IsRow p (count M) row → IsSummaryOf M row own → (kept : List (List ℕ))
+        → kept ≡ with_kept own (chosen_summary S U c) T row → IsReduced p M (chosen_row K T c) (chosen_summary S U c).lead row r new → IsStepOn p M K T row r kept new true
     step_is c h row new own w b kept e x =
-        subst (λ o. RunAlike (ring p n d) (record { end = Some Reduced; poly = vector_of_row new; kept = map vector_of_row kept }) (reduce (ring p n d) (map vector_of_row T) (vector_of_row row) r o))
-        (sym (chosen_is c h x.0 (sym (ring_quotient p n d r (chosen_summary S U c).lead) ∙ x.1)))
-        (record { end = refl; poly = x.2; kept = subst (AllAlike (ring p n d) (map vector_of_row kept)) kept_is (alike_refl (ring p n d) (map vector_of_row kept)) })
+        subst (λ o. RunAlike (ring p M) (record { end = Some Reduced; poly = vector_of_row new; kept = map vector_of_row kept }) (reduce (ring p M) (map vector_of_row T) (vector_of_row row) r o))
+        (sym (chosen_is c h x.0 (sym (ring_quotient p M r (chosen_summary S U c).lead) ∙ x.1)))
+        (record { end = refl; poly = x.2; kept = subst (AllAlike (ring p M) (map vector_of_row kept)) kept_is (alike_refl (ring p M) (map vector_of_row kept)) })
       where
         there : IsThere (length S) (length U) c
         there = there_is c h
 
-        kept_is : map vector_of_row kept ≡ keep (ltb (ecart (ring p n d) (vector_of_row row)) (ecart (ring p n d) (vector_of_row (chosen_row K T c)))) (map vector_of_row T) (vector_of_row row)
+        kept_is : map vector_of_row kept ≡ keep (ltb (ecart (ring p M) (vector_of_row row)) (ecart (ring p M) (vector_of_row (chosen_row K T c)))) (map vector_of_row T) (vector_of_row row)
         kept_is =
             ap (map vector_of_row) e
             ∙ keep_is (ltb (ecart_of own) (ecart_of (chosen_summary S U c))) row
-            ∙ ap₂ (λ a b. keep (ltb a b) (map vector_of_row T) (vector_of_row row)) (sym (ecart_of_row p n d row w t some own b))
-            (sym (ecart_of_row p n d (chosen_row K T c) (chosen_row_is c (there_is c h)).0 t some (chosen_summary S U c) (chosen_row_is c (there_is c h)).1))
+            ∙ ap₂ (λ a b. keep (ltb a b) (map vector_of_row T) (vector_of_row row)) (sym (ecart_of_row p M row w t some own b))
+            (sym (ecart_of_row p M (chosen_row K T c) (chosen_row_is c (there_is c h)).0 t some (chosen_summary S U c) (chosen_row_is c (there_is c h)).1))
 
 -- ---- what summaries have
 -- the summary of a row is a summary as `choose` takes it
-pub summary_good : (p n d : ℕ) → 1 ≤ n → (row : List ℕ) (s : Summary) → IsRow p (monomial_count n d) row → IsSummaryOf n d row s → IsSummary n d s
-summary_good p n d some row s w h =
-    let low : s.lead < monomial_count n d = omega (arith, h.begins.within, w.full) in
-    record { lead = low; degrees = omega (arith, h.lead, h.top.greatest (mono_of_rank n d s.lead) s.lead (rank-mono_of_rank n d s.lead some low) h.begins.some) }
+pub summary_good : (p : ℕ) (T : Shape) → 1 ≤ T.variables → (row : List ℕ) (s : Summary) → IsRow p (count T) row → IsSummaryOf T row s → IsSummary T s
+summary_good p T some row s w h =
+    let low : s.lead < count T = omega (arith, h.begins.within, w.full) in
+    record { lead = low; degrees = omega (arith, h.lead, h.top.greatest (mono_of_rank T s.lead) s.lead (rank-mono_of_rank T s.lead some low) h.begins.some) }
 
 -- and so are those of many rows
-pub summaries_good : (p n d : ℕ) → 1 ≤ n → (rows : List (List ℕ)) (summaries : List Summary) → AreRows p (monomial_count n d) rows → AreSummarized n d rows summaries → All (IsSummary n d) summaries
-summaries_good p n d some rows summaries w h k x l =
+pub summaries_good : (p : ℕ) (T : Shape) → 1 ≤ T.variables → (rows : List (List ℕ)) (summaries : List Summary) → AreRows p (count T) rows → AreSummarized T rows summaries → All (IsSummary T) summaries
+summaries_good p T some rows summaries w h k x l =
     let m : k < length rows = omega (arith, l, h.beside) in
-    subst (IsSummary n d) (get_or_default summaries k no_summary x l) (summary_good p n d some (row_at rows k) (summary_at summaries k) (w k m) (h.each k m))
+    subst (IsSummary T) (get_or_default summaries k no_summary x l) (summary_good p T some (row_at rows k) (summary_at summaries k) (w k m) (h.each k m))
 
 -- ---- a row that is put behind
 -- rows of residues with one more behind them are rows of residues
@@ -252,17 +252,17 @@ rows_put p places rows row w v i l = go (cases_lt i (length rows))
     go (inr m) = subst (IsRow p places) (sym (get_or_push rows row [] i (omega (arith, l, m, length-append rows (row ∷ []))))) v
 
 -- rows beside their summaries stay so with one more of each
-pub summarized_put : (n d : ℕ) (rows : List (List ℕ)) (summaries : List Summary) (row : List ℕ) (s : Summary) → AreSummarized n d rows summaries → IsSummaryOf n d row s → AreSummarized n d (rows ++ row ∷ []) (summaries ++ s ∷ [])
-summarized_put n d rows summaries row s w v = record {
+pub summarized_put : (T : Shape) (rows : List (List ℕ)) (summaries : List Summary) (row : List ℕ) (s : Summary) → AreSummarized T rows summaries → IsSummaryOf T row s → AreSummarized T (rows ++ row ∷ []) (summaries ++ s ∷ [])
+summarized_put T rows summaries row s w v = record {
   beside = length-append summaries (s ∷ []) ∙ ap (λ k. k + 1) w.beside ∙ sym (length-append rows (row ∷ []));
   each = λ i l. go i l (cases_lt i (length rows));
 }
   where
-    go : (i : ℕ) → i < length (rows ++ row ∷ []) → (i < length rows) ⊎ (length rows ≤ i) → IsSummaryOf n d (row_at (rows ++ row ∷ []) i) (summary_at (summaries ++ s ∷ []) i)
-    go i l (inl m) = subst (λ r. IsSummaryOf n d r (summary_at (summaries ++ s ∷ []) i)) (sym (get_or_append_left rows (row ∷ []) [] i m))
-        (subst (IsSummaryOf n d (row_at rows i)) (sym (get_or_append_left summaries (s ∷ []) no_summary i (omega (arith, m, w.beside)))) (w.each i m))
+    go : (i : ℕ) → i < length (rows ++ row ∷ []) → (i < length rows) ⊎ (length rows ≤ i) → IsSummaryOf T (row_at (rows ++ row ∷ []) i) (summary_at (summaries ++ s ∷ []) i)
+    go i l (inl m) = subst (λ r. IsSummaryOf T r (summary_at (summaries ++ s ∷ []) i)) (sym (get_or_append_left rows (row ∷ []) [] i m))
+        (subst (IsSummaryOf T (row_at rows i)) (sym (get_or_append_left summaries (s ∷ []) no_summary i (omega (arith, m, w.beside)))) (w.each i m))
     go i l (inr m) = let e : length rows ≡ i = omega (arith, l, m, length-append rows (row ∷ [])) in
-        subst (λ r. IsSummaryOf n d r (summary_at (summaries ++ s ∷ []) i)) (sym (get_or_push rows row [] i e)) (subst (IsSummaryOf n d row) (sym (get_or_push summaries s no_summary i (w.beside ∙ e))) v)
+        subst (λ r. IsSummaryOf T r (summary_at (summaries ++ s ∷ []) i)) (sym (get_or_push rows row [] i e)) (subst (IsSummaryOf T row) (sym (get_or_push summaries s no_summary i (w.beside ∙ e))) v)
 
 -- the intermediates are rows of residues after a step
 pub rows_kept : (p places : ℕ) (own reducer : Summary) (rows : List (List ℕ)) (row : List ℕ) → AreRows p places rows → IsRow p places row → AreRows p places (with_kept own reducer rows row)
@@ -273,12 +273,12 @@ rows_kept p places own reducer rows row w v = go (ltb (ecart_of own) (ecart_of r
     go false = w
 
 -- the intermediates have their summaries after a step
-pub summarized_kept : (n d : ℕ) (own reducer : Summary) (rows : List (List ℕ)) (summaries : List Summary) (row : List ℕ) → AreSummarized n d rows summaries → IsSummaryOf n d row own
-    → AreSummarized n d (with_kept own reducer rows row) (with_kept own reducer summaries own)
-summarized_kept n d own reducer rows summaries row w v = go (ltb (ecart_of own) (ecart_of reducer))
+pub summarized_kept : (T : Shape) (own reducer : Summary) (rows : List (List ℕ)) (summaries : List Summary) (row : List ℕ) → AreSummarized T rows summaries → IsSummaryOf T row own
+    → AreSummarized T (with_kept own reducer rows row) (with_kept own reducer summaries own)
+summarized_kept T own reducer rows summaries row w v = go (ltb (ecart_of own) (ecart_of reducer))
   where
-    go : (b : Bool) → AreSummarized n d (cond b (rows ++ row ∷ []) rows) (cond b (summaries ++ own ∷ []) summaries)
-    go true = summarized_put n d rows summaries row own w v
+    go : (b : Bool) → AreSummarized T (cond b (rows ++ row ∷ []) rows) (cond b (summaries ++ own ∷ []) summaries)
+    go true = summarized_put T rows summaries row own w v
     go false = w
 
 -- a step keeps one intermediate more at most
@@ -303,8 +303,8 @@ pub there_same : (a b a' b' : ℕ) (c : Choice) → a ≡ a' → b ≡ b' → Is
 there_same a b a' b' c e f h = subst (λ x. IsThere x b' c) e (subst (λ y. IsThere a y c) f h)
 
 -- a choice among equal summaries is the same
-pub choice_of : (n d r : ℕ) (S S' U U' : List Summary) (c : Choice) → S ≡ S' → U ≡ U' → IsChoice n d S U r c → IsChoice n d S' U' r c
-choice_of n d r S S' U U' c e f h = subst (λ x. IsChoice n d x U' r c) e (subst (λ y. IsChoice n d S y r c) f h)
+pub choice_of : (T : Shape) (r : ℕ) (S S' U U' : List Summary) (c : Choice) → S ≡ S' → U ≡ U' → IsChoice T S U r c → IsChoice T S' U' r c
+choice_of T r S S' U U' c e f h = subst (λ x. IsChoice T x U' r c) e (subst (λ y. IsChoice T S y r c) f h)
 
 -- the row that is lent is the chosen one
 pub residues_are : (K T kept : List (List ℕ)) (own reducer : Summary) (row residues : List ℕ) (c : Choice) → residues ≡ chosen_row K kept c → kept ≡ with_kept own reducer T row → IsThere (length K) (length T) c

@@ -6,7 +6,8 @@ use Rattle.std.proofs.lemmas.List.{get_or_default, get_or_push, length-append, g
 use Rattle.std.proofs.lemmas.List.Elements.{All-take}
 use Rattle.prime_field.specs.Prime.{InTable}
 use Rattle.prime_field.specs.Inverse.{inverse}
-use Rattle.local_order.specs.Count.{monomial_count}
+use Rattle.local_order.specs.Shape.{Shape, count}
+use Rattle.sparse_poly.specs.Shape.{shape_of}
 use Rattle.rank_algebra.specs.Ranks.{Ranks, IsRanks}
 use Rattle.sparse_poly.specs.Ideal.{Problem}
 use Rattle.entry_code.specs.declared.item.Item.{Item}
@@ -83,7 +84,7 @@ first_term (u ∷ ts) t e = let same : u ≡ t = cc e in ap (λ x. x.rank) (sym 
 
 -- ---- one entry more
 -- the entries are those that are known with the one that is learnt
-pub knows_more : (entries : List Entry) (e : Entry) (s : State) (r : List ℕ) → AreMonicTerms s.p (monomial_count s.n s.d) e.terms → IsRowOfTerms (monomial_count s.n s.d) e.terms r → Knows entries s
+pub knows_more : (entries : List Entry) (e : Entry) (s : State) (r : List ℕ) → AreMonicTerms s.p (count s.shape) e.terms → IsRowOfTerms (count s.shape) e.terms r → Knows entries s
     → Knows (entries ++ e ∷ []) (record s { known = s.known ++ r ∷ [] })
 knows_more entries e s r m w h = record {
   all = length-append s.known (r ∷ []) ∙ ap (λ k. k + 1) h.all ∙ sym (length-append entries (e ∷ []));
@@ -106,7 +107,7 @@ knows_more entries e s r m w h = record {
     begins_at k l (inr b) =
         let here : length entries ≡ k = omega (arith, l, b, length-append entries (e ∷ [])) in
         subst (λ x. BeginsAt x (lead_rank (entry_at (entries ++ e ∷ []) k).terms)) (sym (get_or_push s.known r [] k (h.all ∙ here)))
-        (subst (λ x. BeginsAt r (lead_rank x.terms)) (sym (get_or_push entries e no_entry k here)) (terms_begin s.p (monomial_count s.n s.d) e.terms r m w))
+        (subst (λ x. BeginsAt r (lead_rank x.terms)) (sym (get_or_push entries e no_entry k here)) (terms_begin s.p (count s.shape) e.terms r m w))
 
 -- steps that know only the first entries are the same over more entries
 steps_same : (R : Ranks) (f g : ℕ → Vector) (s : ℕ) → ((x : ℕ) → x < s → g x ≡ f x) → (ds : List Reading) → All (λ d. d.known ≤ s) ds → (x : Run) → steps R g x ds ≡ steps R f x ds
@@ -127,7 +128,7 @@ run_more P entries e item ds h k =
 -- a run over the entries is one over more entries
 pub has_run_more : (P : Problem) (entries : List Entry) (e : Entry) (s : State) (known : List (List ℕ)) → HasRun P entries s → HasRun P (entries ++ e ∷ []) (record s { known = known })
 has_run_more P entries e s known h = record {
-  over = record { field = h.over.field; variables = h.over.variables; degree = h.over.degree };
+  over = record { field = h.over.field; shape = h.over.shape };
   item = fits_more (generators_of P) (length entries) (length (entries ++ e ∷ [])) (omega (arith, length-append entries (e ∷ []))) s.item h.item;
   known = λ k x l. omega (arith, h.known k x l, length-append entries (e ∷ []));
   some = h.some;
@@ -146,7 +147,7 @@ begins_one r a b h k = go (cases_lt a b) (cases_lt b a)
     go (inr l) (inr m) = omega (arith, l, m)
 
 -- the start over the known rows agrees with the start over the entries
-pub starts_agree : (s : State) → InTable s.p → 1 ≤ s.n → (G : Generators) (entries : List Entry) (summaries : List Summary) → Knows entries s → AreSummarized s.n s.d s.known summaries → (item : Item)
+pub starts_agree : (s : State) → InTable s.p → 1 ≤ s.shape.variables → (G : Generators) (entries : List Entry) (summaries : List Summary) → Knows entries s → AreSummarized s.shape s.known summaries → (item : Item)
     → IsItemOf G.count (length entries) item → Agree (ring_of s) (ring_of s).n (start_of (ring_of s) G (basis_in s.known summaries) item) (start_of (ring_of s) G (basis_of entries) item)
 starts_agree s t some G entries summaries h w (Generator g) l = agree_refl (ring_of s) (ring_of s).n (G.member g)
 starts_agree s t some G entries summaries h w (Pair i j) l =
@@ -156,7 +157,7 @@ starts_agree s t some G entries summaries h w (Pair i j) l =
     (agree_scale (((ring_of s).p - 1) * 1) (agree_shift (ring_of s) L (ring_of s).n _ _ _ (omega arith) (h.each j l.1)))))
   where
     L : IsRanks (ring_of s)
-    L = ring_laws s.p s.n s.d t some
+    L = ring_laws s.p s.shape t some
 
     lead_same : (k : ℕ) → k < length entries → (summary_at summaries k).lead ≡ lead_rank (entry_at entries k).terms
     lead_same k m = begins_one (row_at s.known k) (summary_at summaries k).lead (lead_rank (entry_at entries k).terms) (w.each k (omega (arith, m, h.all))).begins (h.leads k m)
@@ -166,37 +167,37 @@ starts_agree s t some G entries summaries h w (Pair i j) l =
 
 -- the ring of the problem is that of the state
 pub ring_same : (P : Problem) (s : State) → IsOver P s → ranks_of_problem P ≡ ring_of s
-ring_same P s h = ring_of_problem P ∙ ap (λ x. ring x P.n P.d) h.field ∙ ap₂ (ring s.p) h.variables h.degree
+ring_same P s h = ring_of_problem P ∙ ap (λ x. ring x (shape_of P)) h.field ∙ ap (ring s.p) h.shape
 
 -- ---- drafts
 -- vectors that agree are made monic to vectors that agree
-pub monic_same : (p n d : ℕ) → InTable p → 1 ≤ n → (v u : Vector) → Agree (ring p n d) (ring p n d).n v u → Agree (ring p n d) (ring p n d).n (monic (ring p n d) v) (monic (ring p n d) u)
-monic_same p n d t some v u h = subst (λ o. Agree (ring p n d) (ring p n d).n (monic (ring p n d) v) (monic_by (ring p n d) u o)) (same_lead (ring p n d) v u h) (go (lead (ring p n d) v) refl)
+pub monic_same : (p : ℕ) (T : Shape) → InTable p → 1 ≤ T.variables → (v u : Vector) → Agree (ring p T) (ring p T).n v u → Agree (ring p T) (ring p T).n (monic (ring p T) v) (monic (ring p T) u)
+monic_same p T t some v u h = subst (λ o. Agree (ring p T) (ring p T).n (monic (ring p T) v) (monic_by (ring p T) u o)) (same_lead (ring p T) v u h) (go (lead (ring p T) v) refl)
   where
-    go : (o : Option ℕ) → lead (ring p n d) v ≡ o → Agree (ring p n d) (ring p n d).n (monic_by (ring p n d) v o) (monic_by (ring p n d) u o)
+    go : (o : Option ℕ) → lead (ring p T) v ≡ o → Agree (ring p T) (ring p T).n (monic_by (ring p T) v o) (monic_by (ring p T) u o)
     go None e = h
-    go (Some r) e = subst (λ c. Agree (ring p n d) (ring p n d).n (scale ((ring p n d).inverse_of (v r)) v) (scale c u)) (same_inverse r (lead_some (ring p n d) v r e).small) (agree_scale ((ring p n d).inverse_of (v r)) h)
+    go (Some r) e = subst (λ c. Agree (ring p T) (ring p T).n (scale ((ring p T).inverse_of (v r)) v) (scale c u)) (same_inverse r (lead_some (ring p T) v r e).small) (agree_scale ((ring p T).inverse_of (v r)) h)
       where
-        same_inverse : (r : ℕ) → r < (ring p n d).n → (ring p n d).inverse_of (v r) ≡ (ring p n d).inverse_of (u r)
-        same_inverse r l = ring_inverse p n d (v r) ∙ ap (inverse p) (subst (λ q. v r % q ≡ u r % q) (ring_p p n d) (h.at r l).eq) ∙ sym (ring_inverse p n d (u r))
+        same_inverse : (r : ℕ) → r < (ring p T).n → (ring p T).inverse_of (v r) ≡ (ring p T).inverse_of (u r)
+        same_inverse r l = ring_inverse p T (v r) ∙ ap (inverse p) (subst (λ q. v r % q ≡ u r % q) (ring_p p T) (h.at r l).eq) ∙ sym (ring_inverse p T (u r))
 
 -- the draft over the rows is the draft of the run
-pub draft_same : (P : Problem) (entries : List Entry) (s : State) → InTable s.p → 1 ≤ s.n → HasRun P entries s → draft_in s ≡ draft_of P entries s.item s.reads
+pub draft_same : (P : Problem) (entries : List Entry) (s : State) → InTable s.p → 1 ≤ s.shape.variables → HasRun P entries s → draft_in s ≡ draft_of P entries s.item s.reads
 draft_same P entries s t some h =
     ap (λ ts. record { item = s.item; reads = s.reads; terms = ts })
-    (terms_same (ring_of s) (monic (ring_of s) (vector_of_row s.poly)) (monic (ring_of s) (run P entries s.item s.reads).poly) (monic_same s.p s.n s.d t some (vector_of_row s.poly) (run P entries s.item s.reads).poly h.run.poly)
+    (terms_same (ring_of s) (monic (ring_of s) (vector_of_row s.poly)) (monic (ring_of s) (run P entries s.item s.reads).poly) (monic_same s.p s.shape t some (vector_of_row s.poly) (run P entries s.item s.reads).poly h.run.poly)
     ∙ ap (λ R. terms_of R (monic R (run P entries s.item s.reads).poly)) (sym (ring_same P s h.over)))
 
 -- ---- a run begins
 -- the row from which a run begins agrees with the start of its item
-pub begun : (P : Problem) (s : State) → InTable s.p → 1 ≤ s.n → (entries : List Entry) (summaries : List Summary) (item : Item) (row : List ℕ) → IsOver P s → Knows entries s → AreSummarized s.n s.d s.known summaries
+pub begun : (P : Problem) (s : State) → InTable s.p → 1 ≤ s.shape.variables → (entries : List Entry) (summaries : List Summary) (item : Item) (row : List ℕ) → IsOver P s → Knows entries s → AreSummarized s.shape s.known summaries
     → IsItemOf (length P.gens) (length s.known) item
-    → Agree (ranks_of_problem P) (monomial_count s.n s.d) (vector_of_row row) (start_of (ranks_of_problem P) (generators_of P) (basis_in s.known summaries) item)
+    → Agree (ranks_of_problem P) (count s.shape) (vector_of_row row) (start_of (ranks_of_problem P) (generators_of P) (basis_in s.known summaries) item)
     → Agree (ring_of s) (ring_of s).n (vector_of_row row) (start P entries item)
 begun P s t some entries summaries item row o h w l a =
     subst (λ R. Agree (ring_of s) (ring_of s).n (vector_of_row row) (start_of R (generators_of P) (basis_of entries) item)) (sym same)
-    (agree_trans (subst (λ k. Agree (ring_of s) k (vector_of_row row) (start_of (ring_of s) (generators_of P) (basis_in s.known summaries) item)) (sym (ring_count s.p s.n s.d))
-    (subst (λ R. Agree R (monomial_count s.n s.d) (vector_of_row row) (start_of R (generators_of P) (basis_in s.known summaries) item)) same a))
+    (agree_trans (subst (λ k. Agree (ring_of s) k (vector_of_row row) (start_of (ring_of s) (generators_of P) (basis_in s.known summaries) item)) (sym (ring_count s.p s.shape))
+    (subst (λ R. Agree R (count s.shape) (vector_of_row row) (start_of R (generators_of P) (basis_in s.known summaries) item)) same a))
     (starts_agree s t some (generators_of P) entries summaries h w item (subst (λ k. IsItemOf (length P.gens) k item) h.all l)))
   where
     same : ranks_of_problem P ≡ ring_of s
@@ -207,7 +208,7 @@ pub has_begun : (P : Problem) (s : State) (entries : List Entry) (item : Item) (
     → Agree (ring_of s) (ring_of s).n (vector_of_row row) (start P entries item)
     → HasRun P entries (record s { is_open = true; item = item; reads = []; end = None; poly = row; kept = [] })
 has_begun P s entries item row o h l a = record {
-  over = record { field = o.field; variables = o.variables; degree = o.degree };
+  over = record { field = o.field; shape = o.shape };
   item = subst (λ k. IsItemOf (length P.gens) k item) h.all l;
   known = λ k x m. absurd (omega (arith, m));
   some = λ f. absurd (f refl);

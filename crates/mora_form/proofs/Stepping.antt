@@ -6,6 +6,7 @@ use Rattle.std.proofs.lemmas.Bool.{cases_lt, cases_eq, lt-ltb, le-ltb}
 use Rattle.std.proofs.lemmas.List.{get_or_default, length-append, take-append-le, take_all, get_or_past}
 use Rattle.std.proofs.lemmas.List.Elements.{All-pop, All-push}
 use Rattle.prime_field.specs.Prime.{InTable}
+use Rattle.local_order.specs.Shape.{Shape}
 use Rattle.rank_algebra.specs.Ranks.{Ranks}
 use Rattle.sparse_poly.specs.Ideal.{Problem}
 use Rattle.entry_code.specs.declared.reading.Reading.{Reading}
@@ -196,11 +197,11 @@ before_next R f x o ds d e some going h j l m = go (is_stuck o) refl m
         ∙ h j l (omega (arith, k, ap length w.1, length-append (without_last ds) (w.0 ∷ [])))
 
 -- a step takes the run on
-pub has_stepped : (P : Problem) (entries : List Entry) (s : State) (new : State) (d : Reading) → InTable s.p → 1 ≤ s.n → Knows entries s → HasRun P entries s → d.known ≡ length s.known → All (λ e. d.corner ≤ e.corner) s.reads
+pub has_stepped : (P : Problem) (entries : List Entry) (s : State) (new : State) (d : Reading) → InTable s.p → 1 ≤ s.shape.variables → Knows entries s → HasRun P entries s → d.known ≡ length s.known → All (λ e. d.corner ≤ e.corner) s.reads
     → (is_stuck s.end ≡ true → 0 < length s.reads) → (s.end ≡ Some Zero → ⊥) → RunAlike (ring_of s) (run_in new) (step (ring_of s) (entry_vector s.known) (run_in s) d)
-    → new.p ≡ s.p → new.n ≡ s.n → new.d ≡ s.d → new.item ≡ s.item → new.reads ≡ recorded s.end s.reads ++ d ∷ [] → HasRun P entries new
-has_stepped P entries s new d t some k h kn c st going a ep en ed ei er = record {
-  over = record { field = h.over.field ∙ sym ep; variables = h.over.variables ∙ sym en; degree = h.over.degree ∙ sym ed };
+    → new.p ≡ s.p → new.shape ≡ s.shape → new.item ≡ s.item → new.reads ≡ recorded s.end s.reads ++ d ∷ [] → HasRun P entries new
+has_stepped P entries s new d t some k h kn c st going a ep es ei er = record {
+  over = record { field = h.over.field ∙ sym ep; shape = h.over.shape ∙ sym es };
   item = subst (IsItemOf (length P.gens) (length entries)) (sym ei) h.item;
   known = subst (All (λ d. d.known ≤ length entries)) (sym er) (All-push (λ d. d.known ≤ length entries) (recorded s.end s.reads) d (all_recorded (λ d. d.known ≤ length entries) s.end s.reads st h.known) (omega (arith, kn, k.all)));
   some = λ e. omega (arith, ap length er, length-append (recorded s.end s.reads) (d ∷ []));
@@ -213,13 +214,13 @@ has_stepped P entries s new d t some k h kn c st going a ep en ed ei er = record
 }
   where
     same_new : ring_of new ≡ ring_of s
-    same_new = ap (λ x. ring x new.n new.d) ep ∙ ap₂ (ring s.p) en ed
+    same_new = ap (λ x. ring x new.shape) ep ∙ ap (ring s.p) es
 
     same : ranks_of_problem P ≡ ring_of s
     same = ring_same P s h.over
 
     old : RunAlike (ring_of s) (step (ring_of s) (entry_vector s.known) (run_in s) d) (step (ring_of s) (basis_of entries).member (run P entries s.item s.reads) d)
-    old = step_alike (ring_of s) (ring_laws s.p s.n s.d t some) (entry_vector s.known) (basis_of entries).member (length entries) k.each (run_in s) (run P entries s.item s.reads) d (omega (arith, kn, k.all)) h.run
+    old = step_alike (ring_of s) (ring_laws s.p s.shape t some) (entry_vector s.known) (basis_of entries).member (length entries) k.each (run_in s) (run P entries s.item s.reads) d (omega (arith, kn, k.all)) h.run
 
     next : step (ring_of s) (basis_of entries).member (run P entries s.item s.reads) d ≡ run P entries s.item (recorded s.end s.reads ++ d ∷ [])
     next = subst (λ R. step R (basis_of entries).member (run P entries s.item s.reads) d ≡ run P entries s.item (recorded s.end s.reads ++ d ∷ [])) same
@@ -231,13 +232,13 @@ has_stepped P entries s new d t some k h kn c st going a ep en ed ei er = record
 
 -- ---- the state after a step
 -- the step on the cut row is the definition's step
-pub stepped_is : (s : State) (n d : ℕ) (r : Reading) (kept : List (List ℕ)) (row new : List ℕ) (e : StepEnd) → n ≡ s.n → d ≡ s.d → r.known ≡ length s.known → IsCutAt r.corner s.poly row
-    → IsAdvance s.p n d s.known s.kept row kept new e
+pub stepped_is : (s : State) (T : Shape) (r : Reading) (kept : List (List ℕ)) (row new : List ℕ) (e : StepEnd) → T ≡ s.shape → r.known ≡ length s.known → IsCutAt r.corner s.poly row
+    → IsAdvance s.p T s.known s.kept row kept new e
     → RunAlike (ring_of s) (record { end = Some e; poly = vector_of_row new; kept = map vector_of_row kept }) (step (ring_of s) (entry_vector s.known) (run_in s) r)
-stepped_is s n d r kept row new e en ed k c a =
+stepped_is s T r kept row new e es k c a =
     subst (λ v. RunAlike (ring_of s) (record { end = Some e; poly = vector_of_row new; kept = map vector_of_row kept }) (step_at (ring_of s) (entry_vector s.known) r.known (map vector_of_row s.kept) v (lead (ring_of s) v))) (cut_vector r.corner s.poly row c)
     (subst (λ m. RunAlike (ring_of s) (record { end = Some e; poly = vector_of_row new; kept = map vector_of_row kept }) (step_at (ring_of s) (entry_vector s.known) m (map vector_of_row s.kept) (vector_of_row row) (lead (ring_of s) (vector_of_row row)))) (sym k)
-    (subst (λ R. RunAlike R (record { end = Some e; poly = vector_of_row new; kept = map vector_of_row kept }) (step_at R (entry_vector s.known) (length s.known) (map vector_of_row s.kept) (vector_of_row row) (lead R (vector_of_row row)))) (ap₂ (ring s.p) en ed) a))
+    (subst (λ R. RunAlike R (record { end = Some e; poly = vector_of_row new; kept = map vector_of_row kept }) (step_at R (entry_vector s.known) (length s.known) (map vector_of_row s.kept) (vector_of_row row) (lead R (vector_of_row row)))) (ap (ring s.p) es) a))
 
 -- after a step that goes on, as many ranks are gone as readings are recorded
 pub going_after : (places kept : ℕ) (row : List ℕ) (ds : List Reading) (d : Reading) (e : StepEnd) → HasGone places (steps_after (length ds) e) kept row → goes_on e ≡ true → HasGone places (length (recorded (Some e) (ds ++ d ∷ []))) kept row

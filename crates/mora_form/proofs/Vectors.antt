@@ -6,7 +6,8 @@ use Rattle.prime_field.specs.Prime.{InTable}
 use Rattle.prime_field.specs.Inverse.{inverse}
 use Rattle.prime_field.proofs.Primality.{IsPrime-table}
 use Rattle.local_order.specs.Mono.{degree, mono_times, mono_quotient}
-use Rattle.local_order.specs.Count.{monomial_count}
+use Rattle.local_order.specs.Shape.{Shape, count}
+use Rattle.sparse_poly.specs.Shape.{shape_of}
 use Rattle.local_order.proofs.Order.{mono_times-mono_quotient}
 use Rattle.local_order.proofs.Division.{divides_iff}
 use Rattle.mono_rank.specs.Rank.{HasRank, mono_of_rank}
@@ -32,43 +33,43 @@ use Rattle.mora_form.proofs.Quotients.{quotient_fits}
 
 -- ---- the ring
 -- it is that of each problem over the field, in these variables and modulo this degree
-pub ring_of_problem : (P : Problem) → ranks_of_problem P ≡ ring P.p P.n P.d
+pub ring_of_problem : (P : Problem) → ranks_of_problem P ≡ ring P.p (shape_of P)
 unfolding ranks_of_problem numbering_of
 ring_of_problem P = refl
 
 -- its field has p members
-pub ring_p : (p n d : ℕ) → (ring p n d).p ≡ p
+pub ring_p : (p : ℕ) (T : Shape) → (ring p T).p ≡ p
 unfolding ranks_of_problem numbering_of
-ring_p p n d = refl
+ring_p p T = refl
 
 -- it has a rank for each monomial of degree at most d
-pub ring_count : (p n d : ℕ) → (ring p n d).n ≡ monomial_count n d
+pub ring_count : (p : ℕ) (T : Shape) → (ring p T).n ≡ count T
 unfolding ranks_of_problem numbering_of
-ring_count p n d = refl
+ring_count p T = refl
 
 -- its quotients are those of monomials by rank
-pub ring_quotient : (p n d r a : ℕ) → (ring p n d).quotient r a ≡ rank_quotient (numbering n d) r a
+pub ring_quotient : (p : ℕ) (T : Shape) (r a : ℕ) → (ring p T).quotient r a ≡ rank_quotient (numbering T) r a
 unfolding ranks_of_problem numbering_of
-ring_quotient p n d r a = refl
+ring_quotient p T r a = refl
 
 -- and so are its cofactors
-pub ring_cofactor : (p n d a b : ℕ) → (ring p n d).cofactor a b ≡ rank_cofactor (numbering n d) a b
+pub ring_cofactor : (p : ℕ) (T : Shape) (a b : ℕ) → (ring p T).cofactor a b ≡ rank_cofactor (numbering T) a b
 unfolding ranks_of_problem numbering_of
-ring_cofactor p n d a b = refl
+ring_cofactor p T a b = refl
 
 -- its degrees are those of monomials
-pub ring_degree : (p n d r : ℕ) → (ring p n d).degree r ≡ degree (mono_of_rank n d r)
+pub ring_degree : (p : ℕ) (T : Shape) (r : ℕ) → (ring p T).degree r ≡ degree (mono_of_rank T r)
 unfolding ranks_of_problem numbering_of
-ring_degree p n d r = refl
+ring_degree p T r = refl
 
 -- its inverses are those of residues
-pub ring_inverse : (p n d c : ℕ) → (ring p n d).inverse_of c ≡ inverse p (c % p)
+pub ring_inverse : (p : ℕ) (T : Shape) (c : ℕ) → (ring p T).inverse_of c ≡ inverse p (c % p)
 unfolding ranks_of_problem numbering_of
-ring_inverse p n d c = refl
+ring_inverse p T c = refl
 
 -- it has the laws of computing by rank
-pub ring_laws : (p n d : ℕ) → InTable p → 1 ≤ n → IsRanks (ring p n d)
-ring_laws p n d t some = ranks_are (record { p = p; n = n; d = d; gens = [] }) (record { prime = IsPrime-table p t; some = some; in_ring = λ k x l. absurd (omega (arith, l)) })
+pub ring_laws : (p : ℕ) (T : Shape) → InTable p → 1 ≤ T.variables → IsRanks (ring p T)
+ring_laws p T t some = ranks_are (record { p = p; n = T.variables; d = T.degree; gens = [] }) (record { prime = IsPrime-table p t; some = some; in_ring = λ k x l. absurd (omega (arith, l)) })
 
 -- ---- residues
 -- numbers below p that are one residue are equal
@@ -88,89 +89,89 @@ minus p (suc c) l = record { eq = sym (ap (λ x. x % p) (go p l) ∙ Nat.add-mul
         more q m e = omega (arith, ap (λ x. x * suc c) (sym e), ap (λ x. c * x) (sym e))
 
 -- ---- leads
-module _ (p n d : ℕ) (t : InTable p) (some : 1 ≤ n) where
+module _ (p : ℕ) (T : Shape) (t : InTable p) (some : 1 ≤ T.variables) where
   -- the ring
   abbrev R : Ranks
-  R = ring p n d
+  R = ring p T
 
   -- the number of monomials
   abbrev N : ℕ
-  N = monomial_count n d
+  N = count T
 
   -- its laws
-  L : IsRanks (ring p n d)
-  L = ring_laws p n d t some
+  L : IsRanks (ring p T)
+  L = ring_laws p T t some
 
   -- a residue of a row that is 0 modulo p is 0
-  none_zero : (r : List ℕ) (k : ℕ) → IsRow p (monomial_count n d) r → k < monomial_count n d → Same (ring p n d).p (get_or r k 0) 0 → get_or r k 0 ≡ 0
+  none_zero : (r : List ℕ) (k : ℕ) → IsRow p (count T) r → k < count T → Same (ring p T).p (get_or r k 0) 0 → get_or r k 0 ≡ 0
   none_zero r k w l h =
-      let small : get_or r k 0 < p = row_small p (monomial_count n d) r k w l in
-      residue_same p (get_or r k 0) 0 small (omega (arith, small)) (subst (λ q. Same q (get_or r k 0) 0) (ring_p p n d) h)
+      let small : get_or r k 0 < p = row_small p (count T) r k w l in
+      residue_same p (get_or r k 0) 0 small (omega (arith, small)) (subst (λ q. Same q (get_or r k 0) 0) (ring_p p T) h)
 
   -- where a row begins its vector has its lead
-  pub begins_lead : (r : List ℕ) (k : ℕ) → IsRow p (monomial_count n d) r → BeginsAt r k → IsLead (ring p n d) (vector_of_row r) k
+  pub begins_lead : (r : List ℕ) (k : ℕ) → IsRow p (count T) r → BeginsAt r k → IsLead (ring p T) (vector_of_row r) k
   begins_lead r k w b =
-      let l : k < monomial_count n d = omega (arith, b.within, w.full) in
+      let l : k < count T = omega (arith, b.within, w.full) in
       record {
-        small = omega (arith, l, ring_count p n d);
-        low = agree_of (ring p n d) k (vector_of_row r) nothing b.before;
+        small = omega (arith, l, ring_count p T);
+        low = agree_of (ring p T) k (vector_of_row r) nothing b.before;
         some = λ h. b.some (none_zero r k w l h);
       }
 
   -- the lead of the vector is the rank where the row begins
-  pub lead_of_row : (r : List ℕ) (k : ℕ) → IsRow p (monomial_count n d) r → BeginsAt r k → lead (ring p n d) (vector_of_row r) ≡ Some k
-  lead_of_row r k w b = lead_is (ring p n d) (vector_of_row r) k (begins_lead r k w b)
+  pub lead_of_row : (r : List ℕ) (k : ℕ) → IsRow p (count T) r → BeginsAt r k → lead (ring p T) (vector_of_row r) ≡ Some k
+  lead_of_row r k w b = lead_is (ring p T) (vector_of_row r) k (begins_lead r k w b)
 
   -- the vector of a row of zeros has no lead
-  pub lead_of_zero : (r : List ℕ) → IsZeroRow r → lead (ring p n d) (vector_of_row r) ≡ None
-  lead_of_zero r z = go (lead (ring p n d) (vector_of_row r)) refl
+  pub lead_of_zero : (r : List ℕ) → IsZeroRow r → lead (ring p T) (vector_of_row r) ≡ None
+  lead_of_zero r z = go (lead (ring p T) (vector_of_row r)) refl
     where
-      go : (o : Option ℕ) → lead (ring p n d) (vector_of_row r) ≡ o → lead (ring p n d) (vector_of_row r) ≡ None
+      go : (o : Option ℕ) → lead (ring p T) (vector_of_row r) ≡ o → lead (ring p T) (vector_of_row r) ≡ None
       go None e = e
-      go (Some k) e = absurd ((lead_some (ring p n d) (vector_of_row r) k e).some (same_of (ring p n d).p (get_or r k 0) 0 (z k)))
+      go (Some k) e = absurd ((lead_some (ring p T) (vector_of_row r) k e).some (same_of (ring p T).p (get_or r k 0) 0 (z k)))
 
   -- ---- multiples
   -- the row less a multiple of another is the vector less the multiple of the other's
-  pub subtract_vector : (c a : ℕ) (g r s : List ℕ) → c < p → a < monomial_count n d → SubtractsMultiple p n d c a g r s
-      → Agree (ring p n d) (ring p n d).n (vector_of_row s) (less (ring p n d) c (shift (ring p n d) a (vector_of_row g)) (vector_of_row r))
+  pub subtract_vector : (c a : ℕ) (g r s : List ℕ) → c < p → a < count T → SubtractsMultiple p T c a g r s
+      → Agree (ring p T) (ring p T).n (vector_of_row s) (less (ring p T) c (shift (ring p T) a (vector_of_row g)) (vector_of_row r))
   subtract_vector c a g r s lc la h = record {
-    at = λ k l. subst (λ q. Same q (get_or s k 0) (get_or r k 0 + (q - 1) * c * shift (ring p n d) a (vector_of_row g) k)) (sym (ring_p p n d))
-        (at k (omega (arith, l, ring_count p n d)) (rank_quotient (numbering n d) k a) refl);
+    at = λ k l. subst (λ q. Same q (get_or s k 0) (get_or r k 0 + (q - 1) * c * shift (ring p T) a (vector_of_row g) k)) (sym (ring_p p T))
+        (at k (omega (arith, l, ring_count p T)) (rank_quotient (numbering T) k a) refl);
   }
     where
-      hx : HasRank n d (mono_of_rank n d a) a
-      hx = rank-mono_of_rank n d a some la
+      hx : HasRank T (mono_of_rank T a) a
+      hx = rank-mono_of_rank T a some la
 
-      at : (k : ℕ) → k < monomial_count n d → (o : Option ℕ) → rank_quotient (numbering n d) k a ≡ o
-          → Same p (get_or s k 0) (get_or r k 0 + (p - 1) * c * shift (ring p n d) a (vector_of_row g) k)
-      at k l None e = same_of p _ _ (h.others (mono_of_rank n d a) (mono_of_rank n d k) k hx (rank-mono_of_rank n d k some l)
-          (λ v. absurd (cc (sym e, ((quotient_of_ranks n d (mono_of_rank n d a) (mono_of_rank n d k) a k hx (rank-mono_of_rank n d k some l)).0 v).1)))
-          ∙ none (get_or r k 0) ((p - 1) * c) (shift (ring p n d) a (vector_of_row g) k) (ap (coef_at (vector_of_row g)) (ring_quotient p n d k a ∙ e)))
+      at : (k : ℕ) → k < count T → (o : Option ℕ) → rank_quotient (numbering T) k a ≡ o
+          → Same p (get_or s k 0) (get_or r k 0 + (p - 1) * c * shift (ring p T) a (vector_of_row g) k)
+      at k l None e = same_of p _ _ (h.others (mono_of_rank T a) (mono_of_rank T k) k hx (rank-mono_of_rank T k some l)
+          (λ v. absurd (cc (sym e, ((quotient_of_ranks T (mono_of_rank T a) (mono_of_rank T k) a k hx (rank-mono_of_rank T k some l)).0 v).1)))
+          ∙ none (get_or r k 0) ((p - 1) * c) (shift (ring p T) a (vector_of_row g) k) (ap (coef_at (vector_of_row g)) (ring_quotient p T k a ∙ e)))
         where
           none : (x m y : ℕ) → y ≡ 0 → x ≡ x + m * y
           none x m y e = omega (arith, ap (λ z. m * z) e)
       at k l (Some q) e =
-          same_trans (same_of p _ _ (h.multiples (mono_of_rank n d a) quotient q k hx hq hk))
+          same_trans (same_of p _ _ (h.multiples (mono_of_rank T a) quotient q k hx hq hk))
           (same_trans (same_mod p (get_or r k 0 + (p - c) * get_or g q 0))
-          (same_add (same_refl p (get_or r k 0)) (same_mul (minus p c lc) (same_of p _ _ (sym (ap (coef_at (vector_of_row g)) (ring_quotient p n d k a ∙ e)))))))
+          (same_add (same_refl p (get_or r k 0)) (same_mul (minus p c lc) (same_of p _ _ (sym (ap (coef_at (vector_of_row g)) (ring_quotient p T k a ∙ e)))))))
         where
-          over : IsOver (numbering n d) k a q
-          over = over_is (numbering n d) k a q e
+          over : IsOver (numbering T) k a q
+          over = over_is (numbering T) k a q e
 
-          hm : HasRank n d (mono_of_rank n d k) k
-          hm = rank-mono_of_rank n d k some l
+          hm : HasRank T (mono_of_rank T k) k
+          hm = rank-mono_of_rank T k some l
 
           quotient : List ℕ
-          quotient = mono_quotient (mono_of_rank n d k) (mono_of_rank n d a)
+          quotient = mono_quotient (mono_of_rank T k) (mono_of_rank T a)
 
-          long : length (mono_of_rank n d a) ≡ length (mono_of_rank n d k)
+          long : length (mono_of_rank T a) ≡ length (mono_of_rank T k)
           long = hx.in_ring ∙ sym hm.in_ring
 
-          fits : (length (mono_quotient (mono_of_rank n d k) (mono_of_rank n d a)) ≡ n) × (degree (mono_quotient (mono_of_rank n d k) (mono_of_rank n d a)) ≤ d)
-          fits = quotient_fits n d (mono_of_rank n d k) (mono_of_rank n d a) k a hm hx ((divides_iff (mono_of_rank n d a) (mono_of_rank n d k) long).0 over.divisor)
+          fits : (length (mono_quotient (mono_of_rank T k) (mono_of_rank T a)) ≡ T.variables) × (degree (mono_quotient (mono_of_rank T k) (mono_of_rank T a)) ≤ T.degree)
+          fits = quotient_fits T (mono_of_rank T k) (mono_of_rank T a) k a hm hx ((divides_iff (mono_of_rank T a) (mono_of_rank T k) long).0 over.divisor)
 
-          hq : HasRank n d quotient q
+          hq : HasRank T quotient q
           hq = record { in_ring = fits.0; low = fits.1; rank = over.rank }
 
-          hk : HasRank n d (mono_times (mono_of_rank n d a) quotient) k
-          hk = subst (λ m. HasRank n d m k) (mono_times-mono_quotient (mono_of_rank n d a) (mono_of_rank n d k) long over.divisor) hm
+          hk : HasRank T (mono_times (mono_of_rank T a) quotient) k
+          hk = subst (λ m. HasRank T m k) (mono_times-mono_quotient (mono_of_rank T a) (mono_of_rank T k) long over.divisor) hm

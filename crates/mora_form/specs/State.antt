@@ -1,7 +1,8 @@
 -- What contracts see of a run and the entries that it knows.
 use Rattle.std.specs.Prelude.{◌≡◌, ℕ, ◌<◌, ◌≤◌, List, [], ◌∷◌, length, take, map, Bool, true, false, Option, Some, None, cond, slice_index, All}
+use Rattle.local_order.specs.Shape.{Shape}
+use Rattle.sparse_poly.specs.Shape.{shape_of}
 use Rattle.rank_algebra.specs.Ranks.{Ranks}
-use Rattle.mono_rank.specs.Stored.{Shape}
 use Rattle.sparse_poly.specs.Ideal.{Problem}
 use Rattle.entry_code.specs.declared.item.Item.{Item}
 use Rattle.entry_code.specs.declared.reading.Reading.{Reading}
@@ -19,13 +20,12 @@ use Rattle.mora_law.specs.Legal.{IsItemOf}
 use Rattle.mora_law.specs.Start.{run}
 use Rattle.mora_form.specs.Reducers.{row_at}
 
--- the field, the variables and the degree; the rows of the entries that are known; whether a run is open, of which item and by
+-- the field, and the monomials; the rows of the entries that are known; whether a run is open, of which item and by
 -- which readings, without those that ended with Stuck and were followed by another; how its last step ended; what is left, as
 -- a row; and the rows of the intermediates
 pub record State : Type 0 where
   pub p : ℕ
-  pub n : ℕ
-  pub d : ℕ
+  pub shape : Shape
   pub known : List (List ℕ)
   pub is_open : Bool
   pub item : Item
@@ -35,17 +35,12 @@ pub record State : Type 0 where
   pub kept : List (List ℕ)
 
 -- computing by rank
-abbrev pub ring : ℕ → ℕ → ℕ → Ranks
-ring p n d = ranks_of_problem (record { p = p; n = n; d = d; gens = [] })
+abbrev pub ring : ℕ → Shape → Ranks
+ring p T = ranks_of_problem (record { p = p; n = T.variables; d = T.degree; gens = [] })
 
 -- the ring of a state
 abbrev pub ring_of : State → Ranks
-ring_of s = ring s.p s.n s.d
-
--- the table is for these monomials
-pub record HasShape (s : State) (t : Shape) : Type 0 where
-  pub variables : t.n ≡ s.n
-  pub degree : t.d ≡ s.d
+ring_of s = ring s.p s.shape
 
 -- a row as a vector
 abbrev pub vector_of_row : List ℕ → Vector
@@ -65,11 +60,10 @@ pub record Knows (entries : List Entry) (s : State) : Type 0 where
   pub each : (k : ℕ) → k < length entries → Agree (ring_of s) (ring_of s).n (entry_vector s.known k) (vector_of_terms (entry_at entries k).terms)
   pub leads : (k : ℕ) → k < length entries → BeginsAt (row_at s.known k) (lead_rank (entry_at entries k).terms)
 
--- the problem is over the same field, in as many variables and modulo the same degree
+-- the problem is over the same field, and about the same monomials
 pub record IsOver (P : Problem) (s : State) : Type 0 where
   pub field : P.p ≡ s.p
-  pub variables : P.n ≡ s.n
-  pub degree : P.d ≡ s.d
+  pub shape : shape_of P ≡ s.shape
 
 -- the run is that of its item by its readings over these entries; each reading but the last ended with Reduced, and after a
 -- step there is one

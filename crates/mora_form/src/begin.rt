@@ -1,7 +1,8 @@
 //! Where runs begin.
 
 ghost use Rattle.std.specs.Prelude.{◌≡◌, ◌<◌, ◌≤◌, length};
-ghost use Rattle.local_order.specs.Count.{monomial_count};
+ghost use Rattle.local_order.specs.Shape.{count};
+ghost use Rattle.sparse_poly.specs.Shape.{shape_of};
 ghost use Rattle.trunc_row.specs.Rows.{IsRow};
 ghost use Rattle.rank_algebra.specs.Vector.{Agree};
 ghost use Rattle.mora_law.specs.Ring.{ranks_of_problem, generators_of};
@@ -27,14 +28,13 @@ pub(crate) fn begin(
     known: &Reducers,
     item: Item,
 )
-    requires variables { problem.now.n ≡ table.now.n }
-    requires degree { problem.now.d ≡ table.now.d }
-    requires row { IsRow problem.now.p (monomial_count table.now.n table.now.d) row.old }
-    requires known_rows { AreRows problem.now.p (monomial_count table.now.n table.now.d) known.now.rows.list }
-    requires known { AreSummarized table.now.n table.now.d known.now.rows.list known.now.summaries.items }
+    requires shape { shape_of problem.now ≡ table.now }
+    requires row { IsRow problem.now.p (count table.now) row.old }
+    requires known_rows { AreRows problem.now.p (count table.now) known.now.rows.list }
+    requires known { AreSummarized table.now known.now.rows.list known.now.summaries.items }
     requires item { IsItemOf (length problem.now.gens) (length known.now.rows.list) item }
-    ensures row { IsRow problem.now.p (monomial_count table.now.n table.now.d) row.new }
-    ensures start { Agree (ranks_of_problem problem.now) (monomial_count table.now.n table.now.d) (vector_of_row row.new)
+    ensures row { IsRow problem.now.p (count table.now) row.new }
+    ensures start { Agree (ranks_of_problem problem.now) (count table.now) (vector_of_row row.new)
         (start_of (ranks_of_problem problem.now) (generators_of problem.now) (basis_in known.now.rows.list known.now.summaries.items) item) }
 {
     match item {

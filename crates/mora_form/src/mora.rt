@@ -1,7 +1,7 @@
 //! Runs of Mora's normal form.
 
 ghost use Rattle.std.specs.Prelude.{◌≡◌, ◌↔◌, ℕ, List, [], ◌∷◌, ◌++◌, ◌<◌, ◌≤◌, length, replicate, All, IsTrue, IfOk, Some, None, true, false};
-ghost use Rattle.local_order.specs.Count.{monomial_count};
+ghost use Rattle.local_order.specs.Shape.{count};
 ghost use Rattle.sparse_poly.specs.Ideal.{Problem as IdealProblem};
 ghost use Rattle.entry_code.specs.Entry.{Entry as EntryRecord, entry_of};
 ghost use Rattle.entry_code.specs.declared.item.Item.TheVariants.{Generator};
@@ -12,7 +12,7 @@ ghost use Rattle.mora_law.specs.Alike.{RunAlike};
 ghost use Rattle.mora_law.specs.Step.{step};
 ghost use Rattle.mora_law.specs.Start.{start};
 ghost use Rattle.mora_law.specs.Legal.{IsItemOf};
-ghost use Rattle.mora_form.specs.State.{ring_of, HasShape, vector_of_row, entry_vector, run_in, Knows, IsOver, HasRun, recorded, AreMonicTerms, draft_in, draft_of};
+ghost use Rattle.mora_form.specs.State.{ring_of, vector_of_row, entry_vector, run_in, Knows, IsOver, HasRun, recorded, AreMonicTerms, draft_in, draft_of};
 
 use crate::begin::begin;
 use crate::draft::draft_when_stuck;
@@ -30,7 +30,7 @@ use trunc_row::Row;
 
 /// A run of Mora's normal form over the entries that are known. [`Mora::open`] takes memory for as many known rows and as
 /// many intermediates as there are monomials, and doesn't touch it; no other call takes memory.
-/// A contract sees the field, the variables and the degree, the rows of the known entries, and the run.
+/// A contract sees the field, the monomials, the rows of the known entries, and the run.
 #[derive(Drop)]
 pub struct Mora {
     n: u32,
@@ -64,22 +64,21 @@ impl Mora {
     pub fn open(alloc: Global, table: &RankTable, field: Field) -> Result<Mora, AllocError>
         ensures { IfOk result (λ m. m ≡ record {
           p = field;
-          n = table.now.n;
-          d = table.now.d;
+          shape = table.now;
           known = [];
           is_open = false;
           item = Generator 0;
           reads = [];
           end = None;
-          poly = replicate (monomial_count table.now.n table.now.d) 0;
+          poly = replicate (count table.now) 0;
           kept = [];
         }) }
     {
         let count = table.count();
         let _prime = field.prime();
         Ok(Mora {
-            n: table.mono(0).n(),
-            d: table.degree_of(count - 1),
+            n: table.n(),
+            d: table.d(),
             field,
             known: no_reducers(alloc, count)?,
             kept: no_reducers(alloc, count)?,
@@ -102,17 +101,17 @@ impl Mora {
 
     /// Whether the terms of an entry are those of a monic polynomial over the field of [`Mora::open`], so that it may be learnt.
     pub fn accepts(&self, entry: &Entry) -> bool
-        ensures { IsTrue result ↔ AreMonicTerms self.now.p (monomial_count self.now.n self.now.d) entry.now.terms.list }
+        ensures { IsTrue result ↔ AreMonicTerms self.now.p (count self.now.shape) entry.now.terms.list }
     {
         are_monic(&entry.terms, self.field.prime(), self.row.len())
     }
 
     /// Adds the next known entry. [`Mora::accepts`] tells whether it may be learnt.
     pub fn learn(&mut self, table: &RankTable, entry: &Entry)
-        requires table { HasShape self.old table.now }
-        requires few { length self.old.known < monomial_count table.now.n table.now.d }
-        requires entry { AreMonicTerms self.old.p (monomial_count table.now.n table.now.d) entry.now.terms.list }
-        ensures value { (r : List ℕ) × IsRowOfTerms (monomial_count table.now.n table.now.d) entry.now.terms.list r
+        requires table { table.now ≡ self.old.shape }
+        requires few { length self.old.known < count table.now }
+        requires entry { AreMonicTerms self.old.p (count table.now) entry.now.terms.list }
+        ensures value { (r : List ℕ) × IsRowOfTerms (count table.now) entry.now.terms.list r
             × (self.new ≡ record self.old { known = self.old.known ++ r ∷ [] }) }
         ensures knows { (entries : List EntryRecord) → Knows entries self.old → Knows (entries ++ entry_of entry.now ∷ []) self.new }
         ensures run { (P : IdealProblem) (entries : List EntryRecord) → HasRun P entries self.old
@@ -126,7 +125,7 @@ impl Mora {
 
     /// Begins a run.
     pub fn start(&mut self, table: &RankTable, problem: &Problem, item: Item)
-        requires table { HasShape self.old table.now }
+        requires table { table.now ≡ self.old.shape }
         requires problem { IsOver problem.now self.old }
         requires item { IsItemOf (length problem.now.gens) (length self.old.known) item }
         ensures value { self.new ≡ record self.old { is_open = true; item = item; reads = []; end = None; poly = self.new.poly; kept = [] } }
@@ -145,7 +144,7 @@ impl Mora {
 
     /// One step of Mora's normal form. A step that is stuck makes the draft.
     pub fn step(&mut self, table: &RankTable, reading: Reading) -> StepEnd
-        requires table { HasShape self.old table.now }
+        requires table { table.now ≡ self.old.shape }
         requires open { IsTrue self.old.is_open }
         requires known { reading.known ≡ length self.old.known }
         requires corners { All (λ d. reading.corner ≤ d.corner) self.old.reads }

@@ -4,6 +4,7 @@ use Rattle.std.proofs.Common.{◌≡◌, ℕ, ◌<◌, ◌≤◌, ◌⊎◌, ◌
 use Rattle.std.proofs.lemmas.Bool.{cases_lt}
 use Rattle.std.proofs.lemmas.List.{get_or-map, length-map}
 use Rattle.local_order.specs.Order.{IsAbove}
+use Rattle.sparse_poly.specs.Shape.{shape_of}
 use Rattle.mono_rank.specs.Rank.{HasRank, rank_of, fewer}
 use Rattle.mono_rank.specs.Laws.{IsNumbering}
 use Rattle.mono_rank.specs.Cover.{IsMultiple as IsMultipleOfLead, Covers, IsCorner}
@@ -31,7 +32,7 @@ module _ (P : Problem) (h : IsAdmissible P) (entries : List Entry) (are_monic : 
   W = numbering_is P h.some
 
   -- the rank of a monomial by the numbering
-  ranked : (m : List ℕ) (r : ℕ) → HasRank P.n P.d m r → (numbering_of P).rank m ≡ r
+  ranked : (m : List ℕ) (r : ℕ) → HasRank (shape_of P) m r → (numbering_of P).rank m ≡ r
   ranked m r k = rank_is P m ∙ k.rank
 
   -- the ranks of the leads
@@ -43,7 +44,7 @@ module _ (P : Problem) (h : IsAdmissible P) (entries : List Entry) (are_monic : 
   small k l = omega (arith, are_monic.small k l, ranks_count P)
 
   -- multiples by rank are multiples of the leads that have these ranks
-  pub multiple_to : (m : List ℕ) (r : ℕ) → HasRank P.n P.d m r → IsMultiple (ranks_of_problem P) (basis_of entries) r → IsMultipleOfLead P.n P.d ranks m
+  pub multiple_to : (m : List ℕ) (r : ℕ) → HasRank (shape_of P) m r → IsMultiple (ranks_of_problem P) (basis_of entries) r → IsMultipleOfLead (shape_of P) ranks m
   multiple_to m r k x = (
     (basis_of entries).lead x.place,
     (numbering_of P).mono ((basis_of entries).lead x.place),
@@ -53,7 +54,7 @@ module _ (P : Problem) (h : IsAdmissible P) (entries : List Entry) (are_monic : 
   )
 
   -- and the other way round
-  pub multiple_from : (m : List ℕ) (r : ℕ) → HasRank P.n P.d m r → IsMultipleOfLead P.n P.d ranks m → IsMultiple (ranks_of_problem P) (basis_of entries) r
+  pub multiple_from : (m : List ℕ) (r : ℕ) → HasRank (shape_of P) m r → IsMultipleOfLead (shape_of P) ranks m → IsMultiple (ranks_of_problem P) (basis_of entries) r
   multiple_from m r k (l, a, (j, jl, g), b, factor) =
       let q = multiple_by_rank P h a m b.in_ring b.low k.in_ring k.low factor in
       let jn : j < length entries = omega (arith, jl, length-map entries (λ e. lead_rank e.terms)) in
@@ -61,9 +62,9 @@ module _ (P : Problem) (h : IsAdmissible P) (entries : List Entry) (are_monic : 
       record { place = j; cofactor = q.0; known = jn; is = ap ((ranks_of_problem P).times q.0) at ∙ q.1 ∙ ranked m r k }
 
   -- the corner of the entries is the corner of their leads
-  pub corner_is_of_leads : IsCorner P.n P.d ranks (corner P entries)
+  pub corner_is_of_leads : IsCorner (shape_of P) ranks (corner P entries)
   corner_is_of_leads = record {
-    covers = λ m r l k. multiple_to m r k (c.covers r l (omega (arith, rank_small P.n P.d m r k, count_is P, ranks_count P)));
+    covers = λ m r l k. multiple_to m r k (c.covers r l (omega (arith, rank_small (shape_of P) m r k, count_is P, ranks_count P)));
     low = omega (arith, c.within, count_is P, ranks_count P);
     least = λ w cover. least w cover;
   }
@@ -71,7 +72,7 @@ module _ (P : Problem) (h : IsAdmissible P) (entries : List Entry) (are_monic : 
       c : IsCover (ranks_of_problem P) (basis_of entries) (corner P entries)
       c = corner_is (ranks_of_problem P) (ranks_are P h) (basis_of entries)
 
-      least : (w : ℕ) → Covers P.n P.d ranks w → corner P entries ≤ w
+      least : (w : ℕ) → Covers (shape_of P) ranks w → corner P entries ≤ w
       least w cover = go (cases_lt (numbering_of P).count w)
         where
           go : ((numbering_of P).count < w) ⊎ (w ≤ (numbering_of P).count) → corner P entries ≤ w
@@ -84,11 +85,11 @@ module _ (P : Problem) (h : IsAdmissible P) (entries : List Entry) (are_monic : 
 
 module _ (P : Problem) (h : IsAdmissible P) (entries : List Entry) (legal : Legal P entries) (settled : AllSettled P entries) where
   -- the corner of the leads
-  corner_leads : IsCorner P.n P.d (map (λ e. lead_rank e.terms) entries) (corner P entries)
+  corner_leads : IsCorner (shape_of P) (map (λ e. lead_rank e.terms) entries) (corner P entries)
   corner_leads = corner_is_of_leads P h entries (monic P h entries legal)
 
   -- a monomial is a lead of the ideal exactly where it is a multiple of a lead
-  pub lead_is_multiple : (m : List ℕ) (r : ℕ) → HasRank P.n P.d m r → IsLeadOfIdeal P m ↔ IsMultipleOfLead P.n P.d (map (λ e. lead_rank e.terms) entries) m
+  pub lead_is_multiple : (m : List ℕ) (r : ℕ) → HasRank (shape_of P) m r → IsLeadOfIdeal P m ↔ IsMultipleOfLead (shape_of P) (map (λ e. lead_rank e.terms) entries) m
   lead_is_multiple m r k = (
     λ j. multiple_to P h entries are_monic m r k (subst (IsMultiple (ranks_of_problem P) (basis_of entries)) at (only_multiples (ranks_of_problem P) (ranks_are P h) (generators_of P) entries legal (settled_by_rank P h entries legal settled) _ ((lead_by_rank P h m k.in_ring k.low).0 j))),
     λ x. (lead_by_rank P h m k.in_ring k.low).1 (subst (IsLeadOfSpan (ranks_of_problem P) (generators_of P)) (sym at) (all_multiples (ranks_of_problem P) (ranks_are P h) (generators_of P) entries legal r small_rank (multiple_from P h entries are_monic m r k x))),
@@ -101,16 +102,16 @@ module _ (P : Problem) (h : IsAdmissible P) (entries : List Entry) (legal : Lega
       at = rank_is P m ∙ k.rank
 
       small_rank : r < (ranks_of_problem P).n
-      small_rank = omega (arith, rank_small P.n P.d m r k, count_is P, ranks_count P)
+      small_rank = omega (arith, rank_small (shape_of P) m r k, count_is P, ranks_count P)
 
   -- the degree fits exactly where the corner is at most the first rank of degree d
   pub fits_by_corner : Fits P ↔ (corner P entries ≤ fewer P.n P.d)
   fits_by_corner = (to, from)
     where
       to : Fits P → corner P entries ≤ fewer P.n P.d
-      to fits = corner_leads.least (fewer P.n P.d) (λ m r l k. (lead_is_multiple m r k).0 (fits m k.in_ring (top_rank P.n P.d m r h.some k l)))
+      to fits = corner_leads.least (fewer P.n P.d) (λ m r l k. (lead_is_multiple m r k).0 (fits m k.in_ring (top_rank (shape_of P) m r h.some k l)))
 
       from : corner P entries ≤ fewer P.n P.d → Fits P
       from l m e top =
-          let k : HasRank P.n P.d m (rank_of P.n P.d m) = record { in_ring = e; low = omega (arith, top); rank = refl } in
-          (lead_is_multiple m _ k).1 (corner_leads.covers m _ (omega (arith, l, rank_top P.n P.d m (rank_of P.n P.d m) h.some k top)) k)
+          let k : HasRank (shape_of P) m (rank_of (shape_of P) m) = record { in_ring = e; low = omega (arith, top); rank = refl } in
+          (lead_is_multiple m _ k).1 (corner_leads.covers m _ (omega (arith, l, rank_top (shape_of P) m (rank_of (shape_of P) m) h.some k top)) k)

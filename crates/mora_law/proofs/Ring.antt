@@ -10,6 +10,7 @@ use Rattle.prime_field.proofs.Primality.{IsPrime-table}
 use Rattle.local_order.specs.Order.{IsAbove}
 use Rattle.local_order.specs.Mono.{degree, mono_one}
 use Rattle.local_order.specs.Count.{monomial_count}
+use Rattle.sparse_poly.specs.Shape.{shape_of}
 use Rattle.mono_rank.specs.Rank.{HasRank, rank_of, mono_of_rank}
 use Rattle.mono_rank.specs.Laws.{IsNumbering, rank_times, rank_quotient, rank_cofactor, ranks_of}
 use Rattle.rank_algebra.specs.Ranks.{IsRanks}
@@ -22,7 +23,7 @@ use Rattle.mora_law.specs.Ring.{numbering_of, ranks_of_problem, IsAdmissible}
 -- the numbering of a problem numbers the monomials by the order ds
 pub numbering_is : (P : Problem) → 1 ≤ P.n → IsNumbering P.n P.d IsAbove (numbering_of P)
 unfolding numbering_of
-numbering_is P some = ranks_are_numbering P.n P.d some
+numbering_is P some = ranks_are_numbering (shape_of P) some
 
 -- ---- the numbering by the order ds
 pub count_is : (P : Problem) → (numbering_of P).count ≡ monomial_count P.n P.d
@@ -30,28 +31,28 @@ unfolding numbering_of
 count_is P = refl
 
 -- the rank of a monomial
-pub rank_is : (P : Problem) (m : List ℕ) → (numbering_of P).rank m ≡ rank_of P.n P.d m
+pub rank_is : (P : Problem) (m : List ℕ) → (numbering_of P).rank m ≡ rank_of (shape_of P) m
 unfolding numbering_of
 rank_is P m = refl
 
 -- the monomial of a rank
-pub mono_is : (P : Problem) (r : ℕ) → (numbering_of P).mono r ≡ mono_of_rank P.n P.d r
+pub mono_is : (P : Problem) (r : ℕ) → (numbering_of P).mono r ≡ mono_of_rank (shape_of P) r
 unfolding numbering_of
 mono_is P r = refl
 
 -- the monomial of a rank has the rank
-pub has_rank : (P : Problem) (r : ℕ) → 1 ≤ P.n → r < (numbering_of P).count → HasRank P.n P.d ((numbering_of P).mono r) r
+pub has_rank : (P : Problem) (r : ℕ) → 1 ≤ P.n → r < (numbering_of P).count → HasRank (shape_of P) ((numbering_of P).mono r) r
 has_rank P r some l = let W = numbering_is P some in
     record { in_ring = W.in_ring r l; low = W.low r l; rank = sym (rank_is P ((numbering_of P).mono r)) ∙ W.back r l }
 
 -- 1 has rank 0
 pub rank_of_one : (P : Problem) → 1 ≤ P.n → (numbering_of P).rank (mono_one P.n) ≡ 0
-rank_of_one P some = rank_is P (mono_one P.n) ∙ (rank-one P.n P.d some).rank
+rank_of_one P some = rank_is P (mono_one P.n) ∙ (rank-one (shape_of P) some).rank
 
 -- and is the monomial of rank 0
 pub mono_of_zero : (P : Problem) → 1 ≤ P.n → (numbering_of P).mono 0 ≡ mono_one P.n
 mono_of_zero P some =
-    let h = rank-one P.n P.d some in
+    let h = rank-one (shape_of P) some in
     ap (numbering_of P).mono (sym (rank_of_one P some)) ∙ (numbering_is P some).there (mono_one P.n) h.in_ring h.low
 
 -- ---- the laws of ranks

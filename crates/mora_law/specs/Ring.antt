@@ -2,6 +2,7 @@
 use Rattle.std.specs.Prelude.{◌%◌, ◌≤◌, [], length, get_or, All}
 use Rattle.prime_field.specs.Prime.{IsPrime}
 use Rattle.prime_field.specs.Inverse.{inverse}
+use Rattle.sparse_poly.specs.Shape.{shape_of}
 use Rattle.mono_rank.specs.Laws.{Numbering, numbering, ranks_of}
 use Rattle.rank_algebra.specs.Ranks.{Ranks}
 use Rattle.sparse_poly.specs.Poly.{Poly, total, IsIn}
@@ -11,7 +12,7 @@ use Rattle.rank_algebra.specs.Ideal.{Generators}
 
 -- the monomials of the problem's ring up to its degree, numbered by its order: nothing else here knows which order it is
 unfoldable pub numbering_of : Problem → Numbering
-numbering_of P = numbering P.n P.d
+numbering_of P = numbering (shape_of P)
 
 -- computing by rank in the problem's ring
 unfoldable pub ranks_of_problem : Problem → Ranks

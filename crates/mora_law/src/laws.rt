@@ -7,6 +7,7 @@ ghost use Rattle.mono_rank.specs.Cover.{IsCorner};
 ghost use Rattle.sparse_poly.specs.Poly.{Poly, IsIn, IsCanonical};
 ghost use Rattle.sparse_poly.specs.Ideal.{Problem, IsProblem, IsInIdeal, IsLeadOfIdeal, Fits, IsReducedBasis, IsFirstMissing};
 ghost use Rattle.std.specs.List.{range_with_len};
+ghost use Rattle.sparse_poly.specs.Shape.{shape_of};
 ghost use Rattle.entry_code.specs.declared.item.Item.{Item};
 ghost use Rattle.entry_code.specs.declared.item.Item.TheVariants.{Generator, Pair};
 ghost use Rattle.entry_code.specs.declared.reading.Reading.{Reading};
@@ -129,7 +130,7 @@ pub fn has_entries()
 /// The corner of monic entries is that of their leads as monomials. Where every ticket is settled, it tells whether the degree fits.
 pub fn corner_of_entries()
     ensures leads { (P : Problem) (entries : List Entry) → IsAdmissible P → AreMonic P entries
-        → IsCorner P.n P.d (map (λ e. lead_rank e.terms) entries) (corner P entries) }
+        → IsCorner (shape_of P) (map (λ e. lead_rank e.terms) entries) (corner P entries) }
     ensures fits { (P : Problem) (entries : List Entry) → IsAdmissible P → Legal P entries → AllSettled P entries
         → Fits P ↔ (corner P entries ≤ fewer P.n P.d) }
 {}

@@ -1,7 +1,6 @@
 //! Reducers of x^2 that were chosen by hand, in x and y up to degree 4.
 
 ghost use Rattle.std.specs.Prelude.{◌≤◌, All, IsTrue};
-ghost use Rattle.local_order.specs.Count.{monomial_count};
 ghost use Rattle.ecart.specs.Choice.{IsSummary};
 
 use ecart::{Choice, Summary, choose, ecart};
@@ -22,14 +21,14 @@ fn summary(top_degree: u32) -> Summary {
 
 /// Whether this can be the summary of a polynomial.
 fn is_summary(table: &RankTable, s: Summary) -> bool
-    ensures { IsTrue result → IsSummary table.now.n table.now.d s }
+    ensures { IsTrue result → IsSummary table.now s }
 {
     s.lead < table.count() && s.lead_degree <= s.top_degree
 }
 
 /// Whether all can be.
 fn are_summaries(table: &RankTable, list: &[Summary]) -> bool
-    ensures { IsTrue result → All (IsSummary table.now.n table.now.d) list.now }
+    ensures { IsTrue result → All (IsSummary table.now) list.now }
 {
     for i in 0..list.len() {
         if !is_summary(table, list[i]) {

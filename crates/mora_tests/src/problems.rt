@@ -57,8 +57,8 @@ pub fn problem(
     d: u32,
     gens: &[Written],
 ) -> Result<Problem, Fail>
-    requires variables { table.now.n ≡ n }
-    requires degree { table.now.d ≡ d }
+    requires variables { table.now.variables ≡ n }
+    requires degree { table.now.degree ≡ d }
     requires some { 1 ≤ d }
     ensures prime { IfOk result (λ f. f.p ≡ 32003) }
     ensures variables { IfOk result (λ f. f.n ≡ n) }

@@ -22,13 +22,13 @@ pub struct Trial {
 }
 
 impl Model for Trial {
-    ghost use Rattle.mora_form.specs.State.{State, HasShape, IsOver};
+    ghost use Rattle.mora_form.specs.State.{State, IsOver};
 
     ghost Value = { State };
 
     ghost view = { λ t. t.mora };
 
-    ghost invariant = { λ t. HasShape t.mora t.table × IsOver t.problem t.mora };
+    ghost invariant = { λ t. (t.table ≡ t.mora.shape) × IsOver t.problem t.mora };
 }
 
 impl Trial {

@@ -65,8 +65,7 @@ module _ (b : Plain) (w : PlainWorker) (k : ℕ) (p : IsProblem b.problem) (h : 
       over = run.over;
       knows = subst (Knows b.entries) (sym value) (record { all = h.holds.knows.all; each = h.holds.knows.each; leads = h.holds.knows.leads });
       leads = h.holds.leads;
-      variables = h.holds.variables;
-      degree = h.holds.degree;
+      shape = h.holds.shape;
       cover = h.holds.cover;
     };
     opened = ap (λ (x : MoraState). x.is_open) value;

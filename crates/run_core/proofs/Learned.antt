@@ -5,7 +5,8 @@ use Rattle.std.specs.List.{slice_get}
 use Rattle.std.proofs.lemmas.Option.{get_or_from_slice_get}
 use Rattle.std.proofs.lemmas.List.{map-append, length-map, get_or_default}
 use Rattle.local_order.specs.Order.{IsAbove}
-use Rattle.local_order.specs.Count.{monomial_count}
+use Rattle.local_order.specs.Shape.{count}
+use Rattle.sparse_poly.specs.Shape.{shape_of}
 use Rattle.mono_rank.specs.Rank.{HasRank}
 use Rattle.mono_rank.specs.Laws.{IsNumbering}
 use Rattle.corner_word.specs.Marks.{IsCoverOf}
@@ -24,30 +25,29 @@ use Rattle.run_core.specs.Work.{Holds}
 use Rattle.run_core.proofs.Learnable.{legal_terms}
 
 -- the monomial of a rank is the numbering's
-pub mono_ranked : (P : Problem) → IsAdmissible P → (m : List ℕ) (r : ℕ) → HasRank P.n P.d m r → m ≡ (numbering_of P).mono r
+pub mono_ranked : (P : Problem) → IsAdmissible P → (m : List ℕ) (r : ℕ) → HasRank (shape_of P) m r → m ≡ (numbering_of P).mono r
 mono_ranked P h m r k = let W : IsNumbering P.n P.d IsAbove (numbering_of P) = numbering_is P h.some in
     sym (W.there m k.in_ring k.low) ∙ ap (numbering_of P).mono (rank_is P m ∙ k.rank)
 
 -- there are at most as many legal entries as monomials
-pub few : (P : Problem) → IsAdmissible P → (entries : List Entry) → Legal P entries → length entries ≤ monomial_count P.n P.d
+pub few : (P : Problem) → IsAdmissible P → (entries : List Entry) → Legal P entries → length entries ≤ count (shape_of P)
 few P h entries legal = subst (λ n. length entries ≤ n) (ranks_count P ∙ count_is P) (few_entries (ranks_of_problem P) (ranks_are P h) (generators_of P) entries legal)
 
 -- the entry at a place, of a legal list, may be learnt
 pub next_terms : (P : Problem) → IsAdmissible P → (entries : List Entry) → Legal P entries → (k : ℕ) (e : Entry) → k < length entries → slice_get entries k ≡ Some e →
-    AreMonicTerms P.p (monomial_count P.n P.d) e.terms
-next_terms P h entries legal k e l is = subst (λ (x : Entry). AreMonicTerms P.p (monomial_count P.n P.d) x.terms) (get_or_from_slice_get entries k e no_entry is) (legal_terms P h entries legal k l)
+    AreMonicTerms P.p (count (shape_of P)) e.terms
+next_terms P h entries legal k e l is = subst (λ (x : Entry). AreMonicTerms P.p (count (shape_of P)) x.terms) (get_or_from_slice_get entries k e no_entry is) (legal_terms P h entries legal k l)
 
 -- what a worker holds once it has learnt the entry
 pub learnt_one : (P : Problem) (known : List Entry) (e : Entry) (w u : PlainWorker) → Holds P known w → u.table ≡ w.table →
-    IsOver P u.mora → Knows (known ++ e ∷ []) u.mora → u.leads.items ≡ w.leads.items ++ (numbering_of P).mono (lead_rank e.terms) ∷ [] → u.cover.n ≡ w.cover.n →
-    u.cover.d ≡ w.cover.d → IsCoverOf (map (λ (x : Entry). lead_rank x.terms) known ++ lead_rank e.terms ∷ []) u.cover → Holds P (known ++ e ∷ []) u
-learnt_one P known e w u h table over knows more n d cover = record {
+    IsOver P u.mora → Knows (known ++ e ∷ []) u.mora → u.leads.items ≡ w.leads.items ++ (numbering_of P).mono (lead_rank e.terms) ∷ [] → u.cover.shape ≡ w.cover.shape →
+    IsCoverOf (map (λ (x : Entry). lead_rank x.terms) known ++ lead_rank e.terms ∷ []) u.cover → Holds P (known ++ e ∷ []) u
+learnt_one P known e w u h table over knows more same cover = record {
   table = table ∙ h.table;
   over = over;
   knows = knows;
   leads = more ∙ ap (λ l. l ++ (numbering_of P).mono (lead_rank e.terms) ∷ []) h.leads ∙ sym (map-append (λ (x : Entry). (numbering_of P).mono (lead_rank x.terms)) known (e ∷ []));
-  variables = n ∙ h.variables;
-  degree = d ∙ h.degree;
+  shape = same ∙ h.shape;
   cover = subst (λ l. IsCoverOf l u.cover) (sym (map-append (λ (x : Entry). lead_rank x.terms) known (e ∷ []))) cover;
 }
 

@@ -2,6 +2,8 @@
 -- The hand and the run have the same readings, and the run sees the whole list, so both end alike.
 use Rattle.std.proofs.Common.{◌≡◌, ◌≢◌, ℕ, zero, suc, ◌+◌, ◌≤◌, Bool, true, false, not, ◌&&◌, List, [], ◌∷◌, ◌++◌, length, map, take, Option, Some, None, refl, sym, ap, ◌∙◌, subst, arith, le_trans}
 use Rattle.std.specs.Prelude.{All}
+use Rattle.local_order.specs.Shape.{Shape}
+use Rattle.sparse_poly.specs.Shape.{shape_of}
 use Rattle.mono_rank.specs.Cover.{IsCorner}
 use Rattle.corner_word.specs.Marks.{IsCoverOf}
 use Rattle.entry_code.specs.declared.reading.Reading.{Reading}
@@ -33,8 +35,8 @@ use Rattle.run_core.proofs.Keeps.{keeps_sound}
 use Rattle.run_core.proofs.Plain.{plain_reads}
 
 -- leads have one corner
-pub one_corner : (n d : ℕ) (leads : List ℕ) (v w : ℕ) → IsCorner n d leads v → IsCorner n d leads w → v ≡ w
-one_corner n d leads v w a b = omega (arith, a.least w b.covers, b.least v a.covers)
+pub one_corner : (T : Shape) (leads : List ℕ) (v w : ℕ) → IsCorner T leads v → IsCorner T leads w → v ≡ w
+one_corner T leads v w a b = omega (arith, a.least w b.covers, b.least v a.covers)
 
 -- each reading has a corner that is no less than the lowest
 corners_low : (R : Ranks) (B : Basis) (w : ℕ) (ds : List Reading) → HaveCorners R B w ds → All (λ d. w ≤ d.corner) ds
@@ -70,12 +72,12 @@ left_is Stuck = refl
 
 module _ (b : Plain) (w : PlainWorker) (r : IsRunning b w) where
   -- the corner of what is covered is that of the entries
-  pub own_corner : (x : ℕ) → ((ls : List ℕ) → IsCoverOf ls w.cover → IsCorner w.cover.n w.cover.d ls x) → x ≡ corner b.problem b.entries
+  pub own_corner : (x : ℕ) → ((ls : List ℕ) → IsCoverOf ls w.cover → IsCorner w.cover.shape ls x) → x ≡ corner b.problem b.entries
   own_corner x h =
       let ranks : List ℕ = map (λ (e : Entry). lead_rank e.terms) b.entries in
-      let here : IsCorner b.problem.n b.problem.d ranks x =
-      subst (λ n. IsCorner n b.problem.d ranks x) r.holds.variables (subst (λ d. IsCorner w.cover.n d ranks x) r.holds.degree (h ranks r.holds.cover)) in
-      one_corner b.problem.n b.problem.d ranks x (corner b.problem b.entries) here
+      let here : IsCorner (shape_of b.problem) ranks x =
+      subst (λ (T : Shape). IsCorner T ranks x) r.holds.shape (h ranks r.holds.cover) in
+      one_corner (shape_of b.problem) ranks x (corner b.problem b.entries) here
       (corner_is_of_leads b.problem r.sound.problem b.entries (monic b.problem r.sound.problem b.entries r.sound.legal))
 
   -- the hand
@@ -137,11 +139,10 @@ module _ (b : Plain) (w : PlainWorker) (r : IsRunning b w) where
     still_holds : Holds b.problem b.entries (record w { mora = m })
     still_holds = record {
       table = r.holds.table;
-      over = subst (IsOver b.problem) (sym value) (record { field = r.holds.over.field; variables = r.holds.over.variables; degree = r.holds.over.degree });
+      over = subst (IsOver b.problem) (sym value) (record { field = r.holds.over.field; shape = r.holds.over.shape });
       knows = subst (Knows b.entries) (sym value) (record { all = r.holds.knows.all; each = r.holds.knows.each; leads = r.holds.knows.leads });
       leads = r.holds.leads;
-      variables = r.holds.variables;
-      degree = r.holds.degree;
+      shape = r.holds.shape;
       cover = r.holds.cover;
     }
 

@@ -1,6 +1,7 @@
 -- What holds of the one worker beside its board.
 use Rattle.std.specs.Prelude.{◌≡◌, ◌≢◌, ℕ, ◌+◌, ◌*◌, ◌<◌, ◌≤◌, Bool, true, false, List, length, map, sum_by, Some}
 use Rattle.corner_word.specs.Marks.{IsCoverOf}
+use Rattle.sparse_poly.specs.Shape.{shape_of}
 use Rattle.sparse_poly.specs.Ideal.{Problem, IsProblem}
 use Rattle.entry_code.specs.Entry.{Entry}
 use Rattle.mora_law.specs.declared.step_end.StepEnd.{StepEnd}
@@ -18,12 +19,11 @@ use Rattle.run_core.specs.Plain.{Plain, plain, is_working, plain_end}
 
 -- the worker computes in the problem's ring, and knows these entries: as rows, by their leads, and by what these cover
 pub record Holds (P : Problem) (entries : List Entry) (w : PlainWorker) : Type 0 where
-  pub table : w.table ≡ record { n = P.n; d = P.d }
+  pub table : w.table ≡ shape_of P
   pub over : IsOver P w.mora
   pub knows : Knows entries w.mora
   pub leads : w.leads.items ≡ leads P entries
-  pub variables : w.cover.n ≡ P.n
-  pub degree : w.cover.d ≡ P.d
+  pub shape : w.cover.shape ≡ shape_of P
   pub cover : IsCoverOf (map (λ e. lead_rank e.terms) entries) w.cover
 
 -- the hand of the board is the ticket of the run with its readings, and has no mark

@@ -3,3 +3,4 @@ pub mod Canonical
 pub mod Ideal
 pub mod Span
 pub mod Letters
+pub mod Shape

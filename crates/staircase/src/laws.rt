@@ -1,13 +1,15 @@
 //! The laws of reduced bases, staircases and leads.
 //! Each is a call that does nothing, and whose contract is the law.
 
-ghost use Rattle.std.specs.Prelude.{◌≡◌, ◌↔◌, ◌+◌, ◌-◌, ◌<◌, ◌≤◌, ℕ, List, [], length, map, All, Contains, IsTrue, slice_get, Some};
+ghost use Rattle.std.specs.Prelude.{◌≡◌, ◌↔◌, ◌+◌, ◌-◌, ◌<◌, ◌≤◌, ℕ, suc, List, [], length, map, All, Contains, IsTrue, slice_get, Some};
 ghost use Rattle.prime_field.specs.Prime.{IsPrime};
 ghost use Rattle.local_order.specs.Mono.{degree, Divides};
+ghost use Rattle.local_order.specs.Shape.{Shape, count};
+ghost use Rattle.sparse_poly.specs.Shape.{shape_of};
 ghost use Rattle.sparse_poly.specs.Poly.{Poly, IsIn};
 ghost use Rattle.sparse_poly.specs.Ideal.{Problem, IsInIdeal, IsLeadOfIdeal, IsStaircase, Fits, IsFirstMissing, IsReducedBasis, IsMultipleOfLead};
 ghost use Rattle.sparse_poly.specs.Span.{Agree};
-ghost use Rattle.mono_rank.specs.Rank.{HasRank, mono_of_rank};
+ghost use Rattle.mono_rank.specs.Rank.{HasRank, mono_of_rank, fewer};
 ghost use Rattle.mono_rank.specs.Cover.{IsCorner};
 ghost use Rattle.staircase.specs.Stair.{IsStairOf, is_of_degree, IsLeastOfDegree, ShowLeads};
 ghost use Rattle.sparse_poly.specs.Poly.{monomial};
@@ -71,24 +73,27 @@ pub fn staircase_is_a_basis()
 
 /// The last rank of the staircase of leads is their corner less one, and there is none exactly where the corner is 0.
 pub fn corner_last()
-    ensures none { (n d : ℕ) (leads ranks : List ℕ) (w : ℕ) → 1 ≤ n → IsStairOf n d leads ranks → IsCorner n d leads w
+    ensures none { (T : Shape) (leads ranks : List ℕ) (w : ℕ) → 1 ≤ T.variables → IsStairOf T leads ranks → IsCorner T leads w
         → (ranks ≡ []) ↔ (w ≡ 0) }
-    ensures last { (n d : ℕ) (leads ranks : List ℕ) (w r : ℕ) → 1 ≤ n → IsStairOf n d leads ranks → IsCorner n d leads w
+    ensures last { (T : Shape) (leads ranks : List ℕ) (w r : ℕ) → 1 ≤ T.variables → IsStairOf T leads ranks → IsCorner T leads w
         → slice_get ranks (length ranks - 1) ≡ Some r → r + 1 ≡ w }
 {}
 
-/// The ranks that count as those of a degree are the ranks of the monomials of that degree.
+/// The ranks that count as those of a degree are the ranks of the monomials of that degree. They follow each other, from the number
+/// of monomials of a lesser degree on.
 pub fn ranks_of_a_degree()
-    ensures { (n d : ℕ) (m : List ℕ) (r e : ℕ) → 1 ≤ n → HasRank n d m r → IsTrue (is_of_degree n e r) ↔ (degree m ≡ e) }
+    ensures monomials { (T : Shape) (m : List ℕ) (r e : ℕ) → HasRank T m r → IsTrue (is_of_degree T e r) ↔ (degree m ≡ e) }
+    ensures run { (T : Shape) (r e : ℕ) → 1 ≤ T.variables → r < count T
+        → (degree (mono_of_rank T r) ≡ e) ↔ ((fewer T.variables e ≤ r) × (r < fewer T.variables (suc e))) }
 {}
 
 /// Where the leads of the ideal are the multiples of some leads, the staircase of these is the ideal's, the degree fits exactly where
-/// none of its ranks is of degree d, and else the least one of degree d is that of the first missing monomial.
+/// the monomials of all its ranks have a lesser degree than d, and else the least rank of degree d is that of the first missing monomial.
 pub fn stair_of_leads()
-    ensures staircase { (P : Problem) (leads ranks : List ℕ) → 1 ≤ P.n → ShowLeads P leads → IsStairOf P.n P.d leads ranks
-        → IsStaircase P (map (mono_of_rank P.n P.d) ranks) }
-    ensures fits { (P : Problem) (leads ranks : List ℕ) → 1 ≤ P.n → ShowLeads P leads → IsStairOf P.n P.d leads ranks
-        → ((r : ℕ) → Contains ranks r → ¬ IsTrue (is_of_degree P.n P.d r)) ↔ Fits P }
-    ensures missing { (P : Problem) (leads ranks : List ℕ) (r : ℕ) → 1 ≤ P.n → ShowLeads P leads → IsStairOf P.n P.d leads ranks
-        → IsLeastOfDegree P.n P.d ranks r → IsFirstMissing P (mono_of_rank P.n P.d r) }
+    ensures staircase { (P : Problem) (leads ranks : List ℕ) → 1 ≤ P.n → ShowLeads P leads → IsStairOf (shape_of P) leads ranks
+        → IsStaircase P (map (mono_of_rank (shape_of P)) ranks) }
+    ensures fits { (P : Problem) (leads ranks : List ℕ) → 1 ≤ P.n → ShowLeads P leads → IsStairOf (shape_of P) leads ranks
+        → ((r : ℕ) → Contains ranks r → degree (mono_of_rank (shape_of P) r) < P.d) ↔ Fits P }
+    ensures missing { (P : Problem) (leads ranks : List ℕ) (r : ℕ) → 1 ≤ P.n → ShowLeads P leads → IsStairOf (shape_of P) leads ranks
+        → IsLeastOfDegree (shape_of P) P.d ranks r → IsFirstMissing P (mono_of_rank (shape_of P) r) }
 {}

@@ -1,7 +1,7 @@
 //! What a staircase is picked from, and what is picked from it.
 
 ghost use Rattle.std.specs.Prelude.{◌≡◌, ℕ, List, ◌+◌, ◌<◌, ◌≤◌, ◌↔◌, All, Contains, count_by, ltb, leb, ◌&&◌, IsTrue, IfOk, MatchOption};
-ghost use Rattle.local_order.specs.Count.{monomial_count};
+ghost use Rattle.local_order.specs.Shape.{count};
 ghost use Rattle.mono_rank.specs.Rank.{HasRank};
 ghost use Rattle.mono_rank.specs.Cover.{IsMultiple};
 ghost use Rattle.staircase.specs.Stair.{IsRising, IsStairOf, HasFirsts};
@@ -11,11 +11,11 @@ use std::alloc::{AllocError, Global};
 
 /// Whether a lead divides the monomial of a rank.
 pub(crate) fn is_multiple(table: &RankTable, leads: &[u32], rank: u32) -> bool
-    requires some { 1 ≤ table.now.n }
-    requires leads { All (λ l. l < monomial_count table.now.n table.now.d) leads.now }
-    requires low { rank < monomial_count table.now.n table.now.d }
-    ensures { (m : List ℕ) → HasRank table.now.n table.now.d m rank
-        → IsTrue result ↔ IsMultiple table.now.n table.now.d leads.now m }
+    requires some { 1 ≤ table.now.variables }
+    requires leads { All (λ l. l < count table.now) leads.now }
+    requires low { rank < count table.now }
+    ensures { (m : List ℕ) → HasRank table.now m rank
+        → IsTrue result ↔ IsMultiple table.now leads.now m }
 {
     for lead in leads {
         if table.divides_rank(*lead, rank) {
@@ -31,8 +31,8 @@ pub(crate) fn non_multiples(
     table: &RankTable,
     leads: &[u32],
 ) -> Result<Vec<u32>, AllocError>
-    requires { All (λ l. l < monomial_count table.now.n table.now.d) leads.now }
-    ensures { IfOk result (λ v. IsStairOf table.now.n table.now.d leads.now v.items) }
+    requires { All (λ l. l < count table.now) leads.now }
+    ensures { IfOk result (λ v. IsStairOf table.now leads.now v.items) }
 {
     let mut ranks = Vec::new(alloc);
     for r in 0..table.count() {
@@ -45,8 +45,8 @@ pub(crate) fn non_multiples(
 
 /// The first rank of each degree up to `d`, the greatest of the table, and behind them the number of monomials.
 pub(crate) fn first_ranks(alloc: Global, table: &RankTable, d: u32) -> Result<Vec<u32>, AllocError>
-    requires { d ≡ table.now.d }
-    ensures { IfOk result (λ v. HasFirsts table.now.n table.now.d v.items) }
+    requires { d ≡ table.now.degree }
+    ensures { IfOk result (λ v. HasFirsts table.now v.items) }
 {
     let mut firsts = Vec::new(alloc);
     for degree in 0..=d {

@@ -1,7 +1,9 @@
 //! The staircase of leads: the monomials that are multiples of none of them.
 
-ghost use Rattle.std.specs.Prelude.{◌≡◌, ℕ, ◌-◌, ◌<◌, All, Contains, IsTrue, length, count_by, slice_get, IfOk, MatchOption};
-ghost use Rattle.local_order.specs.Count.{monomial_count};
+ghost use Rattle.std.specs.Prelude.{◌≡◌, ℕ, ◌-◌, ◌<◌, All, Contains, length, count_by, slice_get, IfOk, MatchOption};
+ghost use Rattle.local_order.specs.Mono.{degree};
+ghost use Rattle.local_order.specs.Shape.{count};
+ghost use Rattle.mono_rank.specs.Rank.{mono_of_rank};
 ghost use Rattle.staircase.specs.Stair.{IsStairOf, is_of_degree, IsLeastOfDegree};
 
 use crate::pick::{count_between, first_from, first_ranks, non_multiples};
@@ -11,7 +13,7 @@ use std::alloc::{AllocError, Global};
 use std::marker::Model;
 
 /// The ranks of the monomials that are multiples of no lead, rising.
-/// A contract sees the number of variables, the greatest degree and the ranks.
+/// A contract sees the monomials that it is among, and the ranks.
 #[derive(Drop)]
 pub struct Stair {
     n: u32,
@@ -25,21 +27,20 @@ impl Model for Stair {
 
     ghost Value = { Stairs };
 
-    ghost view = { λ s. record { n = s.n; d = s.d; ranks = s.ranks } };
+    ghost view = { λ s. record { shape = record { variables = s.n; degree = s.d }; ranks = s.ranks } };
 
-    ghost invariant = { λ s. IsKept s.n s.d s.ranks s.firsts.items };
+    ghost invariant = { λ s. IsKept (record { variables = s.n; degree = s.d }) s.ranks s.firsts.items };
 }
 
 impl Stair {
     /// The staircase of leads, which are ranks of a table. It costs a test of each lead at each rank.
     pub fn of(alloc: Global, table: &RankTable, leads: &[u32]) -> Result<Stair, AllocError>
-        requires { All (λ l. l < monomial_count table.now.n table.now.d) leads.now }
-        ensures variables { IfOk result (λ s. s.n ≡ table.now.n) }
-        ensures degree { IfOk result (λ s. s.d ≡ table.now.d) }
-        ensures ranks { IfOk result (λ s. IsStairOf table.now.n table.now.d leads.now s.ranks) }
+        requires { All (λ l. l < count table.now) leads.now }
+        ensures shape { IfOk result (λ s. s.shape ≡ table.now) }
+        ensures ranks { IfOk result (λ s. IsStairOf table.now leads.now s.ranks) }
     {
-        let n = table.mono(0).n();
-        let d = table.degree_of(table.count() - 1);
+        let n = table.n();
+        let d = table.d();
         let ranks = Ranks::from_vec(non_multiples(alloc, table, leads)?);
         let firsts = first_ranks(alloc, table, d)?;
         Ok(Stair {
@@ -71,9 +72,9 @@ impl Stair {
         self.ranks.as_slice().last().copied()
     }
 
-    /// How many ranks have a degree.
+    /// How many of the ranks are those of monomials of a degree.
     pub fn count(&self, degree: u32) -> u32
-        ensures { result ≡ count_by (is_of_degree self.now.n degree) self.now.ranks }
+        ensures { result ≡ count_by (is_of_degree self.now.shape degree) self.now.ranks }
     {
         if degree > self.d {
             return 0;
@@ -83,11 +84,11 @@ impl Stair {
         count_between(self.ranks.as_slice(), low, high) as u32
     }
 
-    /// The least rank of the greatest degree. There is none exactly where each rank has a lesser degree.
+    /// The least rank of a monomial of the greatest degree. There is none exactly where the monomial of each rank has a lesser degree.
     pub fn first_missing(&self) -> Option<u32>
         ensures { MatchOption result
-            ((r : ℕ) → Contains self.now.ranks r → ¬ IsTrue (is_of_degree self.now.n self.now.d r))
-            (IsLeastOfDegree self.now.n self.now.d self.now.ranks) }
+            ((r : ℕ) → Contains self.now.ranks r → degree (mono_of_rank self.now.shape r) < self.now.shape.degree)
+            (IsLeastOfDegree self.now.shape self.now.shape.degree self.now.ranks) }
     {
         let low = self.firsts[self.d as usize];
         first_from(self.ranks.as_slice(), low)

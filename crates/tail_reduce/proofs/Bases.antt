@@ -3,10 +3,11 @@
 use Rattle.std.proofs.Common.{◌≡◌, ℕ, List, [], ◌∷◌, map, All, refl, sym, ◌∙◌, ap, arith}
 use Rattle.std.proofs.lemmas.List.{get_or-map, length-map}
 use Rattle.std.proofs.lemmas.List.Elements.{All-from_get_or}
+use Rattle.local_order.specs.Shape.{count}
+use Rattle.sparse_poly.specs.Shape.{shape_of}
 use Rattle.sparse_poly.specs.Poly.{Polynomial, in_variables}
 use Rattle.sparse_poly.specs.Ideal.{Problem}
 use Rattle.entry_code.specs.Entry.{Entry}
-use Rattle.local_order.specs.Count.{monomial_count}
 use Rattle.mora_law.specs.Ring.{numbering_of, ranks_of_problem}
 use Rattle.mora_law.specs.Entries.{terms_of, basis_of, poly_of_terms}
 use Rattle.mora_law.specs.Basis.{tidied, minimal_with, plain_basis, basis}
@@ -19,14 +20,14 @@ member_of P entries k = in_variables P.n (poly_of_terms P (terms_of (ranks_of_pr
 
 -- the basis goes over the minimal places
 as_places : (P : Problem) (entries : List Entry) → plain_basis (ranks_of_problem P) (basis_of entries)
-    ≡ map (λ k. terms_of (ranks_of_problem P) (tidied (ranks_of_problem P) (basis_of entries) k)) (minimal_places (ranks_of_problem P) (basis_of entries) (monomial_count P.n P.d))
+    ≡ map (λ k. terms_of (ranks_of_problem P) (tidied (ranks_of_problem P) (basis_of entries) k)) (minimal_places (ranks_of_problem P) (basis_of entries) (count (shape_of P)))
 unfolding ranks_of_problem numbering_of plain_basis
 as_places P entries =
-    filter_then (minimal_with (ranks_of_problem P) (basis_of entries)) (λ k. terms_of (ranks_of_problem P) (tidied (ranks_of_problem P) (basis_of entries) k)) 0 (monomial_count P.n P.d)
+    filter_then (minimal_with (ranks_of_problem P) (basis_of entries)) (λ k. terms_of (ranks_of_problem P) (tidied (ranks_of_problem P) (basis_of entries) k)) 0 (count (shape_of P))
 
 -- those at all minimal places are the basis
-pub members_are : (P : Problem) (entries : List Entry) → map (λ f. f.terms) (map (member_of P entries) (minimal_places (ranks_of_problem P) (basis_of entries) (monomial_count P.n P.d))) ≡ basis P entries
-members_are P entries = go (minimal_places (ranks_of_problem P) (basis_of entries) (monomial_count P.n P.d)) ∙ ap (map (poly_of_terms P)) (sym (as_places P entries))
+pub members_are : (P : Problem) (entries : List Entry) → map (λ f. f.terms) (map (member_of P entries) (minimal_places (ranks_of_problem P) (basis_of entries) (count (shape_of P)))) ≡ basis P entries
+members_are P entries = go (minimal_places (ranks_of_problem P) (basis_of entries) (count (shape_of P))) ∙ ap (map (poly_of_terms P)) (sym (as_places P entries))
   where
     go : (ks : List ℕ) → map (λ f. f.terms) (map (member_of P entries) ks) ≡ map (poly_of_terms P) (map (λ k. terms_of (ranks_of_problem P) (tidied (ranks_of_problem P) (basis_of entries) k)) ks)
     go [] = refl

@@ -2,7 +2,8 @@
 -- Where nothing is to be removed nothing changes; from the corner on all is dropped in the end.
 use Rattle.std.proofs.Common.{◌≡◌, ℕ, zero, suc, ◌+◌, ◌-◌, ◌<◌, ◌≤◌, ◌⊎◌, List, get_or, Option, Some, None, cond, sym, ◌∙◌, ap, subst, arith, inl, inr}
 use Rattle.std.proofs.lemmas.Bool.{cases_lt, lt-ltb, le-ltb}
-use Rattle.local_order.specs.Count.{monomial_count}
+use Rattle.local_order.specs.Shape.{count}
+use Rattle.sparse_poly.specs.Shape.{shape_of}
 use Rattle.rank_algebra.specs.Ranks.{Ranks}
 use Rattle.sparse_poly.specs.Ideal.{Problem}
 use Rattle.trunc_row.specs.Rows.{IsRow, IsCutAt}
@@ -28,11 +29,11 @@ remainder_removed R B corner v = goes_on R B corner 0 corner v (omega arith)
 
 -- the ranks below r are divided
 pub record DividedTo (P : Problem) (B : Basis) (r : ℕ) (old new : List ℕ) : Type 0 where
-  pub row : IsRow P.p (monomial_count P.n P.d) new
+  pub row : IsRow P.p (count (shape_of P)) new
   pub is : (v : Vector) → HasVector P v old → HasVector P (removed (ranks_of_problem P) B r v) new
 
 -- none is yet
-pub divided_start : (P : Problem) (B : Basis) (row : List ℕ) → IsRow P.p (monomial_count P.n P.d) row → DividedTo P B 0 row row
+pub divided_start : (P : Problem) (B : Basis) (row : List ℕ) → IsRow P.p (count (shape_of P)) row → DividedTo P B 0 row row
 divided_start P B row h = record { row = h; is = λ v k. k }
 
 -- as a loop counts
@@ -40,7 +41,7 @@ next : (P : Problem) (B : Basis) (r : ℕ) (v : Vector) (row : List ℕ) → Has
 next P B r v row h = let z : suc r ≡ r + 1 = omega arith in subst (λ x. HasVector P (removed (ranks_of_problem P) B x v) row) z h
 
 -- a residue of 0 needs no division
-pub divided_zero : (P : Problem) (B : Basis) (r : ℕ) (old new : List ℕ) → r < monomial_count P.n P.d → get_or new r 0 ≡ 0 → DividedTo P B r old new → DividedTo P B (r + 1) old new
+pub divided_zero : (P : Problem) (B : Basis) (r : ℕ) (old new : List ℕ) → r < count (shape_of P) → get_or new r 0 ≡ 0 → DividedTo P B r old new → DividedTo P B (r + 1) old new
 unfolding ranks_of_problem
 divided_zero P B r old new l z s = record { row = s.row; is = λ v h. next P B r v new (go (removed (ranks_of_problem P) B r v) (s.is v h)) }
   where
@@ -68,8 +69,8 @@ divided_none P B r old new e s = record {
 }
 
 -- of another the multiple of the first divisor is subtracted
-pub divided_by : (P : Problem) (B : Basis) (r c : ℕ) (old middle new : List ℕ) (hit : Hit) → r < monomial_count P.n P.d → c ≡ get_or middle r 0 → first_lead (ranks_of_problem P) B r ≡ Some hit →
-    IsRow P.p (monomial_count P.n P.d) new →
+pub divided_by : (P : Problem) (B : Basis) (r c : ℕ) (old middle new : List ℕ) (hit : Hit) → r < count (shape_of P) → c ≡ get_or middle r 0 → first_lead (ranks_of_problem P) B r ≡ Some hit →
+    IsRow P.p (count (shape_of P)) new →
     ((u : Vector) → HasVector P u middle → HasVector P (less (ranks_of_problem P) c (shift (ranks_of_problem P) hit.cofactor (B.member hit.place)) u) new) →
     DividedTo P B r old middle → DividedTo P B (r + 1) old new
 unfolding ranks_of_problem
@@ -87,12 +88,12 @@ divided_by P B r c old middle new hit l e f row less_is s = record {
 
 -- ---- what lies from the corner on
 -- with them dropped it is the remainder
-pub divided_all : (P : Problem) (B : Basis) (corner : ℕ) (old middle new : List ℕ) (v : Vector) → IsRow P.p (monomial_count P.n P.d) new → IsCutAt corner middle new → DividedTo P B corner old middle →
+pub divided_all : (P : Problem) (B : Basis) (corner : ℕ) (old middle new : List ℕ) (v : Vector) → IsRow P.p (count (shape_of P)) new → IsCutAt corner middle new → DividedTo P B corner old middle →
     HasVector P v old → HasVector P (remainder (ranks_of_problem P) B corner v) new
 unfolding ranks_of_problem
 divided_all P B corner old middle new v row cut s h =
     subst (λ u. HasVector P u new) (sym (remainder_removed (ranks_of_problem P) B corner v)) (record { row = row; is = λ k l. go k l (cases_lt k corner) })
   where
-    go : (k : ℕ) → k < monomial_count P.n P.d → (k < corner) ⊎ (corner ≤ k) → Same P.p (get_or new k 0) (cut_at corner (removed (ranks_of_problem P) B corner v) k)
+    go : (k : ℕ) → k < count (shape_of P) → (k < corner) ⊎ (corner ≤ k) → Same P.p (get_or new k 0) (cut_at corner (removed (ranks_of_problem P) B corner v) k)
     go k l (inl m) = same_trans (same_of _ _ _ (cut.kept k m)) (same_trans ((s.is v h).is k l) (same_of _ _ _ (sym (ap (λ b. cond b (removed (ranks_of_problem P) B corner v k) 0) (lt-ltb k corner m)))))
     go k l (inr m) = same_of _ _ _ (cut.dropped k m ∙ sym (ap (λ b. cond b (removed (ranks_of_problem P) B corner v k) 0) (le-ltb k corner m)))

@@ -5,8 +5,9 @@ use Rattle.std.specs.Prelude.{option_map, option_and_then}
 use Rattle.std.proofs.Math.Seq.{get_or-append_seam}
 use Rattle.std.proofs.lemmas.Bool.{cases_lt}
 use Rattle.std.proofs.lemmas.List.{get_or_append_left}
+use Rattle.local_order.specs.Shape.{Shape, count}
+use Rattle.sparse_poly.specs.Shape.{shape_of}
 use Rattle.rank_algebra.specs.Ranks.{Ranks, IsRanks}
-use Rattle.mono_rank.specs.Stored.{Shape}
 use Rattle.sparse_poly.specs.Ideal.{Problem}
 use Rattle.rank_algebra.specs.Division.{Basis, Hit, divides_at, hit_at, first_lead, IsMultiple, IsCover, corner_of}
 use Rattle.mora_law.specs.Ring.{ranks_of_problem, IsAdmissible}
@@ -14,10 +15,8 @@ use Rattle.mora_law.proofs.Ring.{ranks_are}
 use Rattle.rank_algebra.proofs.First.{first_is, first_none}
 use Rattle.rank_algebra.proofs.Corner.{corner_is, corner_least}
 use Rattle.rank_algebra.proofs.Searches.{first_found, none_found}
-use Rattle.local_order.specs.Count.{monomial_count}
 use Rattle.tail_reduce.proofs.Ranked.{ranks_n}
 use Rattle.tail_reduce.specs.declared.divisors.Divisor.{Divisor}
-use Rattle.tail_reduce.specs.Rows.{shape_of}
 use Rattle.tail_reduce.specs.Divisors.{AreLeadsOf, AreFirsts, hit_of}
 
 -- ---- the first lead that divides
@@ -50,8 +49,8 @@ found_nowhere table leads rank k e n P B h =
     ap (option_and_then (hit_at (ranks_of_problem P) B rank)) (none_found (divides_at (ranks_of_problem P) B rank) 0 B.size (λ j a b. n.is P B h j (omega (arith, e, h.size))))
 
 -- what is found is an entry, and the quotient has a rank
-pub divisor_known : (P : Problem) (B : Basis) (r : ℕ) (hit : Hit) → IsAdmissible P → r < monomial_count P.n P.d → first_lead (ranks_of_problem P) B r ≡ Some hit →
-    (hit.place < B.size) × (hit.cofactor < monomial_count P.n P.d)
+pub divisor_known : (P : Problem) (B : Basis) (r : ℕ) (hit : Hit) → IsAdmissible P → r < count (shape_of P) → first_lead (ranks_of_problem P) B r ≡ Some hit →
+    (hit.place < B.size) × (hit.cofactor < count (shape_of P))
 divisor_known P B r hit h l e =
     let L = ranks_are P h in
     let f = first_is (ranks_of_problem P) L B r hit (omega (arith, l, ranks_n P)) e in
@@ -59,8 +58,8 @@ divisor_known P B r hit h l e =
     (f.known, omega (arith, l, z, L.le (B.lead hit.place) hit.cofactor (omega (arith, l, z, ranks_n P))))
 
 -- so it is of a stored divisor
-pub stored_known : (P : Problem) (B : Basis) (firsts : List (Option Divisor)) (r : ℕ) (d : Divisor) → IsAdmissible P → r < monomial_count P.n P.d →
-    AreFirsts (ranks_of_problem P) B (monomial_count P.n P.d) firsts → get_or firsts r None ≡ Some d → (d.place < B.size) × (d.cofactor < monomial_count P.n P.d)
+pub stored_known : (P : Problem) (B : Basis) (firsts : List (Option Divisor)) (r : ℕ) (d : Divisor) → IsAdmissible P → r < count (shape_of P) →
+    AreFirsts (ranks_of_problem P) B (count (shape_of P)) firsts → get_or firsts r None ≡ Some d → (d.place < B.size) × (d.cofactor < count (shape_of P))
 stored_known P B firsts r d h l f e = divisor_known P B r (hit_of d) h l (sym (f.each r l) ∙ ap (option_map hit_of) e)
 
 -- ---- rank by rank

@@ -4,9 +4,9 @@ use Rattle.std.proofs.Common.{◌≡◌, ℕ, zero, suc, ◌+◌, ◌%◌, ◌<�
 use Rattle.std.proofs.Math.Nat
 use Rattle.std.proofs.lemmas.List.{get_or-map, length-map}
 use Rattle.std.proofs.lemmas.List.Elements.{All-from_get_or}
-use Rattle.local_order.specs.Count.{monomial_count}
+use Rattle.local_order.specs.Shape.{Shape, count}
+use Rattle.sparse_poly.specs.Shape.{shape_of}
 use Rattle.rank_algebra.specs.Ranks.{Ranks}
-use Rattle.mono_rank.specs.Stored.{Shape}
 use Rattle.sparse_poly.specs.Ideal.{Problem, IsProblem}
 use Rattle.entry_code.specs.declared.term.Term.{Term}
 use Rattle.entry_code.specs.Entry.{Entry, no_entry, entry_at}
@@ -19,7 +19,7 @@ use Rattle.mora_law.specs.Legal.{Legal}
 use Rattle.mora_law.proofs.Existence.{few_entries}
 use Rattle.mora_law.proofs.Problems.{monic}
 use Rattle.mora_law.proofs.Terms.{term_by, terms_from, terms_walk}
-use Rattle.tail_reduce.specs.Rows.{shape_of, AreFalling, HaveTerms}
+use Rattle.tail_reduce.specs.Rows.{AreFalling, HaveTerms}
 use Rattle.tail_reduce.specs.Divisors.{leads_of, AreLeadsOf}
 use Rattle.tail_reduce.proofs.Ranked.{ranks_n}
 
@@ -38,10 +38,10 @@ falling_walk R v (suc left) r pos l = go (is_none_at R v r) (falling_walk R v le
     go false h = (omega arith, omega arith, Nat.mod-lt (v r) pos, h)
 
 -- so are all terms of a vector
-falling_terms : (P : Problem) (v : Vector) → IsAdmissible P → AreFalling P.p (monomial_count P.n P.d) 0 (terms_of (ranks_of_problem P) v)
+falling_terms : (P : Problem) (v : Vector) → IsAdmissible P → AreFalling P.p (count (shape_of P)) 0 (terms_of (ranks_of_problem P) v)
 unfolding ranks_of_problem numbering_of
 falling_terms P v h =
-    subst (AreFalling P.p (monomial_count P.n P.d) 0) (sym (terms_walk (ranks_of_problem P) v)) (falling_walk (ranks_of_problem P) v (monomial_count P.n P.d) 0 (omega (arith, h.prime.two_up)) (omega arith))
+    subst (AreFalling P.p (count (shape_of P)) 0) (sym (terms_walk (ranks_of_problem P) v)) (falling_walk (ranks_of_problem P) v (count (shape_of P)) 0 (omega (arith, h.prime.two_up)) (omega arith))
 
 -- a vector with a term has terms
 some_terms : (p r : ℕ) (ts : List Term) → 2 ≤ p → Same p (vector_of_terms ts r) 1 → 0 < length ts
@@ -63,13 +63,13 @@ module _ (P : Problem) (problem : IsProblem P) (entries : List Entry) (legal : L
   legal_terms = record {
     each = λ k l. record {
       some = some_terms P.p _ (entry_at entries k).terms A.prime.two_up (M.one k l);
-      falling = subst (AreFalling P.p (monomial_count P.n P.d) 0) (sym (legal k l).terms) (falling_terms P _ A);
+      falling = subst (AreFalling P.p (count (shape_of P)) 0) (sym (legal k l).terms) (falling_terms P _ A);
     };
   }
 
   -- their leads are ranks
-  pub leads_small : All (λ l. l < monomial_count P.n P.d) (leads_of entries)
-  leads_small = All-from_get_or (λ l. l < monomial_count P.n P.d) (leads_of entries) 0 (λ k l.
+  pub leads_small : All (λ l. l < count (shape_of P)) (leads_of entries)
+  leads_small = All-from_get_or (λ l. l < count (shape_of P)) (leads_of entries) 0 (λ k l.
       let within : k < length entries = omega (arith, l, length-map entries (λ (e : Entry). lead_rank e.terms)) in
       let small = M.small k within in
       let at : get_or (leads_of entries) k 0 ≡ (basis_of entries).lead k = get_or-map (λ e. lead_rank e.terms) entries k no_entry 0 within in
@@ -89,7 +89,7 @@ leads_are P entries table leads e kept = subst (AreLeadsOf P (basis_of entries) 
 
 -- and they are ranks of the table
 pub leads_low : (P : Problem) (entries : List Entry) (table : Shape) (leads : List ℕ) → IsProblem P → Legal P entries → table ≡ shape_of P → leads ≡ leads_of entries →
-    All (λ l. l < monomial_count table.n table.d) leads
+    All (λ l. l < count table) leads
 leads_low P entries table leads problem legal e kept =
-    subst (All (λ l. l < monomial_count table.n table.d)) (sym kept)
-    (subst (λ (t : Shape). All (λ l. l < monomial_count t.n t.d) (leads_of entries)) (sym e) (leads_small P problem entries legal))
+    subst (All (λ l. l < count table)) (sym kept)
+    (subst (λ (t : Shape). All (λ l. l < count t) (leads_of entries)) (sym e) (leads_small P problem entries legal))

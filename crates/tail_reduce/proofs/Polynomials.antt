@@ -5,7 +5,8 @@ use Rattle.std.specs.Prelude.{filter_map}
 use Rattle.std.specs.List.{range_with_len, cons_option}
 use Rattle.std.proofs.lemmas.Bool.{eq-eqb, ne_eqb}
 use Rattle.std.proofs.lemmas.List.{map_push, append-nil}
-use Rattle.local_order.specs.Count.{monomial_count}
+use Rattle.local_order.specs.Shape.{count}
+use Rattle.sparse_poly.specs.Shape.{shape_of}
 use Rattle.mono_rank.specs.Rank.{HasRank}
 use Rattle.mono_rank.proofs.ByRank.{mono_of_rank-is}
 use Rattle.sparse_poly.specs.Poly.{Poly, IsIn, IsCanonical}
@@ -33,29 +34,29 @@ abbrev pub terms_to : Problem → List ℕ → ℕ → List Term
 terms_to P r k = filter_map (term_at (ranks_of_problem P) (vector_of_row r)) (range_with_len 0 k)
 
 -- a residue that isn't 0 is one term more
-pub terms_this : (P : Problem) (r : List ℕ) (k c : ℕ) (m : List ℕ) → IsRow P.p (monomial_count P.n P.d) r → c ≡ get_or r k 0 → (c ≡ 0 → ⊥) → HasRank P.n P.d m k →
+pub terms_this : (P : Problem) (r : List ℕ) (k c : ℕ) (m : List ℕ) → IsRow P.p (count (shape_of P)) r → c ≡ get_or r k 0 → (c ≡ 0 → ⊥) → HasRank (shape_of P) m k →
     poly_of_terms P (terms_to P r k) ++ record { mono = m; coef = c } ∷ [] ≡ poly_of_terms P (terms_to P r (k + 1))
 unfolding ranks_of_problem numbering_of
 terms_this P r k c m row e n h =
-    let own : get_or r k 0 % P.p ≡ c = row_mod P.p (monomial_count P.n P.d) r k row ∙ sym e in
+    let own : get_or r k 0 % P.p ≡ c = row_mod P.p (count (shape_of P)) r k row ∙ sym e in
     let some : eqb (get_or r k 0 % P.p) 0 ≡ false = ne_eqb (get_or r k 0 % P.p) 0 (λ z. n (sym own ∙ z)) in
     let more : terms_to P r (k + 1) ≡ terms_to P r k ++ record { rank = k; coef = get_or r k 0 % P.p } ∷ [] =
     filter_more (term_at (ranks_of_problem P) (vector_of_row r)) k ∙ ap (λ b. terms_to P r k ++ cons_option (cond b None (Some (record { rank = k; coef = get_or r k 0 % P.p }))) []) some in
     sym (ap (poly_of_terms P) more ∙ map_push (poly_term P) (terms_to P r k) (record { rank = k; coef = get_or r k 0 % P.p })
-    ∙ ap (λ x. poly_of_terms P (terms_to P r k) ++ record { mono = x; coef = get_or r k 0 % P.p } ∷ []) (mono_of_rank-is P.n P.d m k h)
+    ∙ ap (λ x. poly_of_terms P (terms_to P r k) ++ record { mono = x; coef = get_or r k 0 % P.p } ∷ []) (mono_of_rank-is (shape_of P) m k h)
     ∙ ap (λ x. poly_of_terms P (terms_to P r k) ++ record { mono = m; coef = x } ∷ []) own)
 
 -- one that is 0 is none
-pub terms_other : (P : Problem) (r : List ℕ) (k : ℕ) → IsRow P.p (monomial_count P.n P.d) r → get_or r k 0 ≡ 0 → poly_of_terms P (terms_to P r k) ≡ poly_of_terms P (terms_to P r (k + 1))
+pub terms_other : (P : Problem) (r : List ℕ) (k : ℕ) → IsRow P.p (count (shape_of P)) r → get_or r k 0 ≡ 0 → poly_of_terms P (terms_to P r k) ≡ poly_of_terms P (terms_to P r (k + 1))
 unfolding ranks_of_problem
 terms_other P r k row z =
-    let none : eqb (get_or r k 0 % P.p) 0 ≡ true = eq-eqb (get_or r k 0 % P.p) 0 (row_mod P.p (monomial_count P.n P.d) r k row ∙ z) in
+    let none : eqb (get_or r k 0 % P.p) 0 ≡ true = eq-eqb (get_or r k 0 % P.p) 0 (row_mod P.p (count (shape_of P)) r k row ∙ z) in
     let more : terms_to P r (k + 1) ≡ terms_to P r k ++ [] =
     filter_more (term_at (ranks_of_problem P) (vector_of_row r)) k ∙ ap (λ b. terms_to P r k ++ cons_option (cond b None (Some (record { rank = k; coef = get_or r k 0 % P.p }))) []) none in
     sym (ap (poly_of_terms P) (more ∙ append-nil (terms_to P r k)))
 
 -- past the last rank they are all terms
-pub terms_all : (P : Problem) (r : List ℕ) (k : ℕ) → k ≡ monomial_count P.n P.d → terms_to P r k ≡ terms_of (ranks_of_problem P) (vector_of_row r)
+pub terms_all : (P : Problem) (r : List ℕ) (k : ℕ) → k ≡ count (shape_of P) → terms_to P r k ≡ terms_of (ranks_of_problem P) (vector_of_row r)
 unfolding ranks_of_problem numbering_of terms_of
 terms_all P r k e = ap (terms_to P r) e
 

@@ -5,8 +5,8 @@ use Rattle.std.specs.Prelude.{filter_map, option_map}
 use Rattle.std.specs.List.{range_with_len, cons_option}
 use Rattle.std.proofs.lemmas.List.{append-nil}
 use Rattle.std.proofs.lemmas.List.Elements.{All-push, filter_map-append}
+use Rattle.local_order.specs.Shape.{Shape}
 use Rattle.rank_algebra.specs.Ranks.{Ranks}
-use Rattle.mono_rank.specs.Stored.{Shape}
 use Rattle.sparse_poly.specs.Ideal.{Problem}
 use Rattle.rank_algebra.specs.Division.{Basis}
 use Rattle.mora_law.specs.Ring.{ranks_of_problem}

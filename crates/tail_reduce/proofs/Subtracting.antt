@@ -6,7 +6,8 @@ use Rattle.std.specs.List.{slice_get}
 use Rattle.std.proofs.lemmas.Bool.{cases_eq, cases_lt}
 use Rattle.std.proofs.lemmas.List.{take_all}
 use Rattle.std.proofs.lemmas.Option.{slice_get-get_or}
-use Rattle.local_order.specs.Count.{monomial_count}
+use Rattle.local_order.specs.Shape.{count}
+use Rattle.sparse_poly.specs.Shape.{shape_of}
 use Rattle.rank_algebra.specs.Ranks.{IsRanks}
 use Rattle.sparse_poly.specs.Ideal.{Problem}
 use Rattle.trunc_row.specs.Rows.{IsRow}
@@ -38,8 +39,8 @@ minus_same p c l =
 -- ---- one term more
 -- the first i terms of the multiple are subtracted
 pub record SubtractedTo (P : Problem) (c a : ℕ) (ts : List Term) (i : ℕ) (old new : List ℕ) : Type 0 where
-  pub row : IsRow P.p (monomial_count P.n P.d) new
-  pub is : (r : ℕ) → r < monomial_count P.n P.d →
+  pub row : IsRow P.p (count (shape_of P)) new
+  pub is : (r : ℕ) → r < count (shape_of P) →
       Same P.p (get_or new r 0) (get_or old r 0 + (P.p - 1) * c * shift (ranks_of_problem P) a (vector_of_terms (take i ts)) r)
 
 module _ (P : Problem) (h : IsAdmissible P) where
@@ -60,7 +61,7 @@ module _ (P : Problem) (h : IsAdmissible P) where
       go (Some s) f = term_other ts i t s e (λ z. n (ap ((ranks_of_problem P).times a) z ∙ L.quotient_times r a s f))
 
   -- a term whose product is beyond the degree is passed
-  pub subtracted_past : (c a : ℕ) (ts : List Term) (i : ℕ) (t : Term) (old new : List ℕ) → slice_get ts i ≡ Some t → (ranks_of_problem P).times a t.rank ≡ monomial_count P.n P.d →
+  pub subtracted_past : (c a : ℕ) (ts : List Term) (i : ℕ) (t : Term) (old new : List ℕ) → slice_get ts i ≡ Some t → (ranks_of_problem P).times a t.rank ≡ count (shape_of P) →
       SubtractedTo P c a ts i old new → SubtractedTo P c a ts (i + 1) old new
   subtracted_past c a ts i t old new e past s = record {
     row = s.row;
@@ -68,15 +69,15 @@ module _ (P : Problem) (h : IsAdmissible P) where
   }
 
   -- the products of terms behind one that is passed are beyond the degree too
-  later_past : (a : ℕ) (ts : List Term) (i j : ℕ) (t s : Term) → AreTerms P ts → slice_get ts i ≡ Some t → slice_get ts j ≡ Some s → i ≤ j → (ranks_of_problem P).times a t.rank ≡ monomial_count P.n P.d →
-      (ranks_of_problem P).times a s.rank ≡ monomial_count P.n P.d
+  later_past : (a : ℕ) (ts : List Term) (i j : ℕ) (t s : Term) → AreTerms P ts → slice_get ts i ≡ Some t → slice_get ts j ≡ Some s → i ≤ j → (ranks_of_problem P).times a t.rank ≡ count (shape_of P) →
+      (ranks_of_problem P).times a s.rank ≡ count (shape_of P)
   later_past a ts i j t s w e f l past = go (cases_lt i j) (product_cases P a s.rank h.some)
     where
-      go : (i < j) ⊎ (j ≤ i) → ((ranks_of_problem P).times a s.rank < monomial_count P.n P.d) ⊎ ((ranks_of_problem P).times a s.rank ≡ monomial_count P.n P.d) →
-          (ranks_of_problem P).times a s.rank ≡ monomial_count P.n P.d
+      go : (i < j) ⊎ (j ≤ i) → ((ranks_of_problem P).times a s.rank < count (shape_of P)) ⊎ ((ranks_of_problem P).times a s.rank ≡ count (shape_of P)) →
+          (ranks_of_problem P).times a s.rank ≡ count (shape_of P)
       go c (inr z) = z
       go (inl m) (inl z) =
-          let later : t.rank < s.rank = term_later P.p (monomial_count P.n P.d) 0 ts i j t s w.falling e f m in
+          let later : t.rank < s.rank = term_later P.p (count (shape_of P)) 0 ts i j t s w.falling e f m in
           absurd (omega (arith, z, past, L.grows a t.rank s.rank later (omega (arith, z, ranks_n P))))
       go (inr m) (inl z) =
           let here : i ≡ j = omega (arith, l, m) in
@@ -85,7 +86,7 @@ module _ (P : Problem) (h : IsAdmissible P) where
           ap (λ (x : Term). (ranks_of_problem P).times a x.rank) (sym one) ∙ past
 
   -- so where one is passed all that is left is
-  pub subtracted_rest : (c a : ℕ) (ts : List Term) (i : ℕ) (t : Term) (old new : List ℕ) (left j : ℕ) → AreTerms P ts → slice_get ts i ≡ Some t → (ranks_of_problem P).times a t.rank ≡ monomial_count P.n P.d →
+  pub subtracted_rest : (c a : ℕ) (ts : List Term) (i : ℕ) (t : Term) (old new : List ℕ) (left j : ℕ) → AreTerms P ts → slice_get ts i ≡ Some t → (ranks_of_problem P).times a t.rank ≡ count (shape_of P) →
       i ≤ j → j + left ≡ length ts → SubtractedTo P c a ts j old new → SubtractedTo P c a ts (length ts) old new
   subtracted_rest c a ts i t old new zero j w e past l n s = let z : j ≡ length ts = omega arith in subst (λ k. SubtractedTo P c a ts k old new) z s
   subtracted_rest c a ts i t old new (suc left) j w e past l n s =
@@ -95,10 +96,10 @@ module _ (P : Problem) (h : IsAdmissible P) where
 
   -- another is subtracted at the rank of its product
   pub subtracted_set : (c a : ℕ) (ts : List Term) (i : ℕ) (t : Term) (old new : List ℕ) (place minus m v : ℕ) → AreTerms P ts → slice_get ts i ≡ Some t →
-      (ranks_of_problem P).times a t.rank ≡ place → place < monomial_count P.n P.d → c < P.p → minus ≡ (P.p - c) % P.p → m ≡ (minus * t.coef) % P.p →
+      (ranks_of_problem P).times a t.rank ≡ place → place < count (shape_of P) → c < P.p → minus ≡ (P.p - c) % P.p → m ≡ (minus * t.coef) % P.p →
       v ≡ (get_or new place 0 + m) % P.p → v < P.p → SubtractedTo P c a ts i old new → SubtractedTo P c a ts (i + 1) old (set new place v)
   subtracted_set c a ts i t old new place minus m v w e product low residue me ve sum small s = record {
-    row = row_set P.p (monomial_count P.n P.d) new place v s.row small;
+    row = row_set P.p (count (shape_of P)) new place v s.row small;
     is = λ r l. go r l (cases_eq r place);
   }
     where
@@ -106,10 +107,10 @@ module _ (P : Problem) (h : IsAdmissible P) where
       within = omega (arith, product, low, ranks_n P)
 
       before : at a ts i place ≡ 0
-      before = ap (at a ts i) (sym product) ∙ shift_at (ranks_of_problem P) L a t.rank (vector_of_terms (take i ts)) within ∙ none_before P.p (monomial_count P.n P.d) 0 ts i t w.falling e
+      before = ap (at a ts i) (sym product) ∙ shift_at (ranks_of_problem P) L a t.rank (vector_of_terms (take i ts)) within ∙ none_before P.p (count (shape_of P)) 0 ts i t w.falling e
 
       after : at a ts (i + 1) place ≡ t.coef
-      after = ap (at a ts (i + 1)) (sym product) ∙ shift_at (ranks_of_problem P) L a t.rank (vector_of_terms (take (i + 1) ts)) within ∙ term_own P.p (monomial_count P.n P.d) 0 ts i t w.falling e
+      after = ap (at a ts (i + 1)) (sym product) ∙ shift_at (ranks_of_problem P) L a t.rank (vector_of_terms (take (i + 1) ts)) within ∙ term_own P.p (count (shape_of P)) 0 ts i t w.falling e
 
       part : Same P.p m ((P.p - 1) * c * t.coef)
       part = same_trans (same_of P.p _ _ ve) (same_trans (same_mod P.p (minus * t.coef))
@@ -125,14 +126,14 @@ module _ (P : Problem) (h : IsAdmissible P) where
           ∙ (let f : get_or old place 0 + (P.p - 1) * c * 0 + (P.p - 1) * c * t.coef ≡ get_or old place 0 + (P.p - 1) * c * t.coef = omega arith in f)
           ∙ ap (λ x. get_or old place 0 + (P.p - 1) * c * x) (sym after)))))
 
-      go : (r : ℕ) → r < monomial_count P.n P.d → (r ≡ place) ⊎ (r ≡ place → ⊥) → Same P.p (get_or (set new place v) r 0) (get_or old r 0 + (P.p - 1) * c * at a ts (i + 1) r)
+      go : (r : ℕ) → r < count (shape_of P) → (r ≡ place) ⊎ (r ≡ place → ⊥) → Same P.p (get_or (set new place v) r 0) (get_or old r 0 + (P.p - 1) * c * at a ts (i + 1) r)
       go r l (inl q) = subst (λ x. Same P.p (get_or (set new place v) x 0) (get_or old x 0 + (P.p - 1) * c * at a ts (i + 1) x)) (sym q) here
       go r l (inr q) =
           same_trans (same_of P.p _ _ (get_or-set_other new place r v 0 q))
           (same_trans (s.is r l) (same_of _ _ _ (ap (λ x. get_or old r 0 + (P.p - 1) * c * x) (sym (at_other a ts i t r e (λ z. q (sym z ∙ product)))))))
 
 -- no term is subtracted yet
-pub subtracted_none : (P : Problem) (c a : ℕ) (ts : List Term) (row : List ℕ) → IsRow P.p (monomial_count P.n P.d) row → SubtractedTo P c a ts 0 row row
+pub subtracted_none : (P : Problem) (c a : ℕ) (ts : List Term) (row : List ℕ) → IsRow P.p (count (shape_of P)) row → SubtractedTo P c a ts 0 row row
 subtracted_none P c a ts row h = record {
   row = h;
   is = λ r l. same_of _ _ _ (sym (ap (λ x. get_or row r 0 + (P.p - 1) * c * x) (go ((ranks_of_problem P).quotient r a)) ∙ omega arith));

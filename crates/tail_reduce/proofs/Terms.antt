@@ -4,7 +4,8 @@ use Rattle.std.proofs.Common.{◌≡◌, ℕ, zero, suc, ◌+◌, ◌<◌, ◌�
 use Rattle.std.specs.List.{slice_get}
 use Rattle.std.proofs.lemmas.Bool.{eq-eqb, ne_eqb}
 use Rattle.std.proofs.lemmas.Option.{get_or_from_slice_get}
-use Rattle.local_order.specs.Count.{monomial_count}
+use Rattle.local_order.specs.Shape.{count}
+use Rattle.sparse_poly.specs.Shape.{shape_of}
 use Rattle.sparse_poly.specs.Ideal.{Problem}
 use Rattle.entry_code.specs.declared.term.Term.{Term}
 use Rattle.entry_code.specs.declared.entry.Entry.{Entry as StoredEntry}
@@ -79,10 +80,10 @@ pub terms_at : (P : Problem) (entries : List Entry) (k : ℕ) (e : StoredEntry) 
 terms_at P entries k e h l is = subst (λ (x : Entry). AreTerms P x.terms) (get_or_from_slice_get entries k (entry_of e) no_entry is) (h.each k l)
 
 -- the rank of each term is one
-pub rank_small : (P : Problem) (ts : List Term) (i : ℕ) (t : Term) → AreTerms P ts → slice_get ts i ≡ Some t → t.rank < monomial_count P.n P.d
-rank_small P ts i t h e = (term_small P.p (monomial_count P.n P.d) 0 ts i t h.falling e).1
+pub rank_small : (P : Problem) (ts : List Term) (i : ℕ) (t : Term) → AreTerms P ts → slice_get ts i ≡ Some t → t.rank < count (shape_of P)
+rank_small P ts i t h e = (term_small P.p (count (shape_of P)) 0 ts i t h.falling e).1
 
 -- so is that of the lead of the entry at a place
 pub lead_small : (P : Problem) (entries : List Entry) (k : ℕ) (e : StoredEntry) (t : Term) → HaveTerms P entries → k < length entries → slice_get entries k ≡ Some (entry_of e) →
-    slice_get e.terms.list 0 ≡ Some t → t.rank < monomial_count P.n P.d
+    slice_get e.terms.list 0 ≡ Some t → t.rank < count (shape_of P)
 lead_small P entries k e t h l is first = rank_small P e.terms.list 0 t (terms_at P entries k e h l is) first

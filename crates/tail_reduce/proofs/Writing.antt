@@ -4,7 +4,8 @@ use Rattle.std.proofs.Common.{◌≡◌, ℕ, ◌+◌, ◌<◌, ◌≤◌, ◌�
 use Rattle.std.specs.List.{slice_get}
 use Rattle.std.proofs.lemmas.Bool.{cases_eq}
 use Rattle.std.proofs.lemmas.List.{take_all}
-use Rattle.local_order.specs.Count.{monomial_count}
+use Rattle.local_order.specs.Shape.{count}
+use Rattle.sparse_poly.specs.Shape.{shape_of}
 use Rattle.sparse_poly.specs.Ideal.{Problem}
 use Rattle.trunc_row.specs.Rows.{IsRow}
 use Rattle.trunc_row.proofs.Residues.{row_set}
@@ -16,23 +17,23 @@ use Rattle.tail_reduce.proofs.Terms.{term_small, term_own, term_other}
 
 -- the first i terms are written
 pub record WrittenTo (P : Problem) (ts : List Term) (i : ℕ) (r : List ℕ) : Type 0 where
-  pub row : IsRow P.p (monomial_count P.n P.d) r
-  pub is : (k : ℕ) → k < monomial_count P.n P.d → get_or r k 0 ≡ vector_of_terms (take i ts) k
+  pub row : IsRow P.p (count (shape_of P)) r
+  pub is : (k : ℕ) → k < count (shape_of P) → get_or r k 0 ≡ vector_of_terms (take i ts) k
 
 -- the next term is written
 pub written_set : (P : Problem) (ts : List Term) (i : ℕ) (t : Term) (r : List ℕ) → AreTerms P ts → slice_get ts i ≡ Some t → WrittenTo P ts i r → WrittenTo P ts (i + 1) (set r t.rank t.coef)
 written_set P ts i t r w e h = record {
-  row = row_set P.p (monomial_count P.n P.d) r t.rank t.coef h.row small.2;
+  row = row_set P.p (count (shape_of P)) r t.rank t.coef h.row small.2;
   is = λ k l. go k l (cases_eq k t.rank);
 }
   where
-    small : (0 ≤ t.rank) × (t.rank < monomial_count P.n P.d) × (t.coef < P.p)
-    small = term_small P.p (monomial_count P.n P.d) 0 ts i t w.falling e
+    small : (0 ≤ t.rank) × (t.rank < count (shape_of P)) × (t.coef < P.p)
+    small = term_small P.p (count (shape_of P)) 0 ts i t w.falling e
 
-    go : (k : ℕ) → k < monomial_count P.n P.d → (k ≡ t.rank) ⊎ (k ≡ t.rank → ⊥) → get_or (set r t.rank t.coef) k 0 ≡ vector_of_terms (take (i + 1) ts) k
+    go : (k : ℕ) → k < count (shape_of P) → (k ≡ t.rank) ⊎ (k ≡ t.rank → ⊥) → get_or (set r t.rank t.coef) k 0 ≡ vector_of_terms (take (i + 1) ts) k
     go k l (inl q) =
         subst (λ x. get_or (set r t.rank t.coef) x 0 ≡ vector_of_terms (take (i + 1) ts) x) (sym q)
-        (get_or-set_same r t.rank t.coef 0 (omega (arith, h.row.full, small.1)) ∙ sym (term_own P.p (monomial_count P.n P.d) 0 ts i t w.falling e))
+        (get_or-set_same r t.rank t.coef 0 (omega (arith, h.row.full, small.1)) ∙ sym (term_own P.p (count (shape_of P)) 0 ts i t w.falling e))
     go k l (inr q) = get_or-set_other r t.rank k t.coef 0 q ∙ h.is k l ∙ sym (term_other ts i t k e (λ z. q (sym z)))
 
 -- past the last term the row has the vector

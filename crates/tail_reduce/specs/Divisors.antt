@@ -1,15 +1,15 @@
 -- For each rank the first entry whose lead divides, and what is read off these.
 use Rattle.std.specs.Prelude.{◌≡◌, ℕ, ◌<◌, List, length, map, Option, None, option_map, filter_map, get_or, slice_index}
 use Rattle.std.specs.List.{range_with_len}
+use Rattle.local_order.specs.Shape.{Shape}
+use Rattle.sparse_poly.specs.Shape.{shape_of}
 use Rattle.rank_algebra.specs.Ranks.{Ranks}
-use Rattle.mono_rank.specs.Stored.{Shape}
 use Rattle.sparse_poly.specs.Ideal.{Problem}
 use Rattle.entry_code.specs.Entry.{Entry}
 use Rattle.rank_algebra.specs.Division.{Basis, Hit, first_lead}
 use Rattle.mora_law.specs.Entries.{lead_rank}
 use Rattle.mora_law.specs.Basis.{minimal_with}
 use Rattle.tail_reduce.specs.declared.divisors.Divisor.{Divisor}
-use Rattle.tail_reduce.specs.Rows.{shape_of}
 
 -- the ranks of the leads
 abbrev pub leads_of : List Entry → List ℕ

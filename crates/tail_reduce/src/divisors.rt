@@ -1,12 +1,12 @@
 //! The first entry whose lead divides a monomial, and the corner.
 
 ghost use Rattle.std.specs.Prelude.{◌≡◌, ◌<◌, ◌^◌, length, All, IfOk, option_map};
+ghost use Rattle.local_order.specs.Shape.{count};
+ghost use Rattle.sparse_poly.specs.Shape.{shape_of};
 ghost use Rattle.rank_algebra.specs.Ranks.{Ranks, IsRanks};
-ghost use Rattle.local_order.specs.Count.{monomial_count};
 ghost use Rattle.sparse_poly.specs.Ideal.{Problem as IdealProblem};
 ghost use Rattle.rank_algebra.specs.Division.{Basis, first_lead, corner_of};
 ghost use Rattle.mora_law.specs.Ring.{ranks_of_problem};
-ghost use Rattle.tail_reduce.specs.Rows.{shape_of};
 ghost use Rattle.tail_reduce.specs.Divisors.{AreLeadsOf, AreFirsts, hit_of};
 
 use mono_rank::RankTable;
@@ -21,8 +21,8 @@ pub(crate) struct Divisor {
 
 /// The rank of the quotient of the monomial of one rank by that of another, where it divides.
 pub(crate) fn quotient_rank(table: &RankTable, rank: u32, divisor: u32) -> Option<u32>
-    requires whole { rank < monomial_count table.now.n table.now.d }
-    requires part { divisor < monomial_count table.now.n table.now.d }
+    requires whole { rank < count table.now }
+    requires part { divisor < count table.now }
     ensures { (P : IdealProblem) → table.now ≡ shape_of P → result ≡ (ranks_of_problem P).quotient rank divisor }
 {
     let quotient = table.mono(rank).quotient(&table.mono(divisor))?;
@@ -31,9 +31,9 @@ pub(crate) fn quotient_rank(table: &RankTable, rank: u32, divisor: u32) -> Optio
 
 /// The first lead that divides the monomial of a rank, by its place, with the rank of the quotient.
 fn first_divisor(table: &RankTable, leads: &[u32], rank: u32) -> Option<Divisor>
-    requires leads { All (λ l. l < monomial_count table.now.n table.now.d) leads.now }
+    requires leads { All (λ l. l < count table.now) leads.now }
     requires few { length leads.now < 2 ^ 32 }
-    requires low { rank < monomial_count table.now.n table.now.d }
+    requires low { rank < count table.now }
     ensures { (P : IdealProblem) (B : Basis) → AreLeadsOf P B table.now leads.now
         → option_map hit_of result ≡ first_lead (ranks_of_problem P) B rank }
 {
@@ -54,10 +54,10 @@ pub(crate) fn first_divisors(
     table: &RankTable,
     leads: &[u32],
 ) -> Result<Vec<Option<Divisor>>, AllocError>
-    requires leads { All (λ l. l < monomial_count table.now.n table.now.d) leads.now }
+    requires leads { All (λ l. l < count table.now) leads.now }
     requires few { length leads.now < 2 ^ 32 }
     ensures { IfOk result (λ v. (P : IdealProblem) (B : Basis) → AreLeadsOf P B table.now leads.now
-        → AreFirsts (ranks_of_problem P) B (monomial_count table.now.n table.now.d) v.items) }
+        → AreFirsts (ranks_of_problem P) B (count table.now) v.items) }
 {
     let mut firsts = Vec::with_capacity(alloc, table.count() as usize)?;
     for rank in 0..table.count() {

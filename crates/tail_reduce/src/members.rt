@@ -1,7 +1,8 @@
 //! A member of the reduced standard basis.
 
 ghost use Rattle.std.specs.Prelude.{◌≡◌, ◌<◌, length, IfOk};
-ghost use Rattle.local_order.specs.Count.{monomial_count};
+ghost use Rattle.local_order.specs.Shape.{count};
+ghost use Rattle.sparse_poly.specs.Shape.{shape_of};
 ghost use Rattle.sparse_poly.specs.Poly.{in_variables};
 ghost use Rattle.sparse_poly.specs.Ideal.{IsProblem};
 ghost use Rattle.trunc_row.specs.Rows.{IsRow, IsZeroRow};
@@ -10,7 +11,7 @@ ghost use Rattle.rank_algebra.specs.Division.{corner_of};
 ghost use Rattle.mora_law.specs.Ring.{ranks_of_problem};
 ghost use Rattle.mora_law.specs.Entries.{basis_of, terms_of, poly_of_terms};
 ghost use Rattle.mora_law.specs.Basis.{tidied};
-ghost use Rattle.tail_reduce.specs.Rows.{shape_of, HasVector, HaveTerms};
+ghost use Rattle.tail_reduce.specs.Rows.{HasVector, HaveTerms};
 ghost use Rattle.tail_reduce.specs.Divisors.{AreFirsts};
 
 use crate::divisors::Divisor;
@@ -34,7 +35,7 @@ pub(crate) fn member(
     requires problem { IsProblem problem.now }
     requires table { table.now ≡ shape_of problem.now }
     requires entries { HaveTerms problem.now entries.now }
-    requires firsts { AreFirsts (ranks_of_problem problem.now) (basis_of entries.now) (monomial_count problem.now.n problem.now.d) firsts.now }
+    requires firsts { AreFirsts (ranks_of_problem problem.now) (basis_of entries.now) (count (shape_of problem.now)) firsts.now }
     requires corner { corner ≡ corner_of (ranks_of_problem problem.now) (basis_of entries.now) }
     requires place { place < length entries.now }
     ensures { IfOk result (λ f. f ≡ in_variables problem.now.n
@@ -58,10 +59,10 @@ fn tidy(
     requires problem { IsProblem problem.now }
     requires table { table.now ≡ shape_of problem.now }
     requires entries { HaveTerms problem.now entries.now }
-    requires firsts { AreFirsts (ranks_of_problem problem.now) (basis_of entries.now) (monomial_count problem.now.n problem.now.d) firsts.now }
+    requires firsts { AreFirsts (ranks_of_problem problem.now) (basis_of entries.now) (count (shape_of problem.now)) firsts.now }
     requires corner { corner ≡ corner_of (ranks_of_problem problem.now) (basis_of entries.now) }
     requires place { place < length entries.now }
-    requires row { IsRow problem.now.p (monomial_count problem.now.n problem.now.d) row.old }
+    requires row { IsRow problem.now.p (count (shape_of problem.now)) row.old }
     requires zero { IsZeroRow row.old }
     ensures { HasVector problem.now (tidied (ranks_of_problem problem.now) (basis_of entries.now) place) row.new }
 {
@@ -82,7 +83,7 @@ fn polynomial(
     row: &[u32],
 ) -> Result<Poly, AllocError>
     requires table { table.now ≡ shape_of problem.now }
-    requires row { IsRow problem.now.p (monomial_count problem.now.n problem.now.d) row.now }
+    requires row { IsRow problem.now.p (count (shape_of problem.now)) row.now }
     ensures { IfOk result (λ f. (v : Vector) → HasVector problem.now v row.now
         → f ≡ in_variables problem.now.n (poly_of_terms problem.now (terms_of (ranks_of_problem problem.now) v))) }
 {

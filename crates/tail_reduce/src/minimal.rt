@@ -1,7 +1,8 @@
 //! The entries with a minimal lead.
 
 ghost use Rattle.std.specs.Prelude.{◌≡◌, ℕ, ◌<◌, ◌^◌, length, All, IfOk};
-ghost use Rattle.local_order.specs.Count.{monomial_count};
+ghost use Rattle.local_order.specs.Shape.{count};
+ghost use Rattle.sparse_poly.specs.Shape.{shape_of};
 ghost use Rattle.sparse_poly.specs.Ideal.{Problem as IdealProblem};
 ghost use Rattle.entry_code.specs.Entry.{entry_at};
 ghost use Rattle.rank_algebra.specs.Division.{Basis};
@@ -36,7 +37,7 @@ pub fn lead_ranks(
 ) -> Result<Vec<u32>, AllocError>
     requires { Legal problem.now entries.now }
     ensures value { IfOk result (λ v. v.items ≡ leads_of entries.now) }
-    ensures small { IfOk result (λ v. All (λ l. l < monomial_count problem.now.n problem.now.d) v.items) }
+    ensures small { IfOk result (λ v. All (λ l. l < count (shape_of problem.now)) v.items) }
 {
     // A problem is within its limits, which its field is lent with.
     let _field = problem.field();
@@ -46,7 +47,7 @@ pub fn lead_ranks(
 
 /// Whether no other lead divides the one at a place.
 fn is_minimal(table: &RankTable, leads: &[u32], place: usize) -> bool
-    requires leads { All (λ l. l < monomial_count table.now.n table.now.d) leads.now }
+    requires leads { All (λ l. l < count table.now) leads.now }
     requires place { place < length leads.now }
     ensures { (P : IdealProblem) (B : Basis) → AreLeadsOf P B table.now leads.now
         → result ≡ is_minimal (ranks_of_problem P) B place }
@@ -61,7 +62,7 @@ fn is_minimal(table: &RankTable, leads: &[u32], place: usize) -> bool
 
 /// The first place with a lead of this rank that no other lead divides.
 fn minimal_with(table: &RankTable, leads: &[u32], rank: u32) -> Option<u32>
-    requires leads { All (λ l. l < monomial_count table.now.n table.now.d) leads.now }
+    requires leads { All (λ l. l < count table.now) leads.now }
     requires few { length leads.now < 2 ^ 32 }
     ensures { (P : IdealProblem) (B : Basis) → AreLeadsOf P B table.now leads.now
         → result ≡ minimal_with (ranks_of_problem P) B rank }
@@ -80,10 +81,10 @@ pub(crate) fn places(
     table: &RankTable,
     leads: &[u32],
 ) -> Result<Vec<u32>, AllocError>
-    requires leads { All (λ l. l < monomial_count table.now.n table.now.d) leads.now }
+    requires leads { All (λ l. l < count table.now) leads.now }
     requires few { length leads.now < 2 ^ 32 }
     ensures { IfOk result (λ v. (P : IdealProblem) (B : Basis) → AreLeadsOf P B table.now leads.now
-        → v.items ≡ minimal_places (ranks_of_problem P) B (monomial_count table.now.n table.now.d)) }
+        → v.items ≡ minimal_places (ranks_of_problem P) B (count table.now)) }
 {
     let mut places = Vec::new(alloc);
     for rank in 0..table.count() {

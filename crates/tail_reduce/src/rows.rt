@@ -1,14 +1,15 @@
 //! The loops over the residues of a row.
 
 ghost use Rattle.std.specs.Prelude.{◌≡◌, ℕ, ◌<◌, ◌≤◌, length, slice_index};
-ghost use Rattle.local_order.specs.Count.{monomial_count};
+ghost use Rattle.local_order.specs.Shape.{count};
+ghost use Rattle.sparse_poly.specs.Shape.{shape_of};
 ghost use Rattle.sparse_poly.specs.Ideal.{IsProblem};
 ghost use Rattle.trunc_row.specs.Rows.{IsRow, IsZeroRow, IsCutAt};
 ghost use Rattle.rank_algebra.specs.Vector.{Vector, shift, less};
 ghost use Rattle.rank_algebra.specs.Division.{remainder};
 ghost use Rattle.mora_law.specs.Ring.{ranks_of_problem};
 ghost use Rattle.mora_law.specs.Entries.{vector_of_terms, basis_of};
-ghost use Rattle.tail_reduce.specs.Rows.{shape_of, HasVector, AreTerms, HaveTerms};
+ghost use Rattle.tail_reduce.specs.Rows.{HasVector, AreTerms, HaveTerms};
 ghost use Rattle.tail_reduce.specs.Divisors.{AreFirsts};
 
 use crate::divisors::Divisor;
@@ -18,7 +19,7 @@ use sparse_poly::Problem;
 
 /// Writes the terms of an entry into a row of 0.
 pub(crate) fn write(problem: &Problem, terms: &Terms, row: &mut [u32])
-    requires row { IsRow problem.now.p (monomial_count problem.now.n problem.now.d) row.old }
+    requires row { IsRow problem.now.p (count (shape_of problem.now)) row.old }
     requires zero { IsZeroRow row.old }
     requires terms { AreTerms problem.now terms.now.list }
     ensures { HasVector problem.now (vector_of_terms terms.now.list) row.new }
@@ -41,10 +42,10 @@ fn subtract(
 )
     requires table { table.now ≡ shape_of problem.now }
     requires residue { c < problem.now.p }
-    requires cofactor { cofactor < monomial_count problem.now.n problem.now.d }
+    requires cofactor { cofactor < count (shape_of problem.now) }
     requires terms { AreTerms problem.now terms.now.list }
-    requires row { IsRow problem.now.p (monomial_count problem.now.n problem.now.d) row.old }
-    ensures row { IsRow problem.now.p (monomial_count problem.now.n problem.now.d) row.new }
+    requires row { IsRow problem.now.p (count (shape_of problem.now)) row.old }
+    ensures row { IsRow problem.now.p (count (shape_of problem.now)) row.new }
     ensures value { (v : Vector) → HasVector problem.now v row.old
         → HasVector problem.now (less (ranks_of_problem problem.now) c (shift (ranks_of_problem problem.now) cofactor (vector_of_terms terms.now.list)) v) row.new }
 {
@@ -74,10 +75,10 @@ pub(crate) fn divide(
     requires problem { IsProblem problem.now }
     requires table { table.now ≡ shape_of problem.now }
     requires entries { HaveTerms problem.now entries.now }
-    requires firsts { AreFirsts (ranks_of_problem problem.now) (basis_of entries.now) (monomial_count problem.now.n problem.now.d) firsts.now }
-    requires corner { corner ≤ monomial_count problem.now.n problem.now.d }
-    requires row { IsRow problem.now.p (monomial_count problem.now.n problem.now.d) row.old }
-    ensures row { IsRow problem.now.p (monomial_count problem.now.n problem.now.d) row.new }
+    requires firsts { AreFirsts (ranks_of_problem problem.now) (basis_of entries.now) (count (shape_of problem.now)) firsts.now }
+    requires corner { corner ≤ count (shape_of problem.now) }
+    requires row { IsRow problem.now.p (count (shape_of problem.now)) row.old }
+    ensures row { IsRow problem.now.p (count (shape_of problem.now)) row.new }
     ensures value { (v : Vector) → HasVector problem.now v row.old
         → HasVector problem.now (remainder (ranks_of_problem problem.now) (basis_of entries.now) corner v) row.new }
 {

@@ -1,7 +1,7 @@
 -- Rows of residues modulo p, one for each monomial of degree at most d, by rank. What the operations do, by rank. Ours.
 use Rattle.std.specs.Prelude.{◌≡◌, ◌≢◌, ℕ, ◌+◌, ◌*◌, ◌-◌, ◌%◌, ◌<◌, ◌≤◌, List, [], ◌∷◌, length, All, slice_index, slice_get, Some, cond, eqb}
 use Rattle.local_order.specs.Mono.{degree, mono_times, Divides}
-use Rattle.local_order.specs.Count.{monomial_count}
+use Rattle.local_order.specs.Shape.{Shape, count}
 use Rattle.mono_rank.specs.Rank.{HasRank}
 use Rattle.entry_code.specs.declared.term.Term.{Term}
 
@@ -21,13 +21,13 @@ pub record BeginsAt (r : List ℕ) (i : ℕ) : Type 0 where
   pub before : (k : ℕ) → k < i → slice_index r k ≡ 0
 
 -- t is the greatest degree of a monomial whose residue isn't 0
-pub record HasTopDegree (n d : ℕ) (r : List ℕ) (t : ℕ) : Type 0 where
+pub record HasTopDegree (T : Shape) (r : List ℕ) (t : ℕ) : Type 0 where
   pub mono : List ℕ
   pub rank : ℕ
-  pub ranked : HasRank n d mono rank
+  pub ranked : HasRank T mono rank
   pub reached : degree mono ≡ t
   pub some : slice_index r rank ≢ 0
-  pub greatest : (m : List ℕ) (k : ℕ) → HasRank n d m k → slice_index r k ≢ 0 → degree m ≤ t
+  pub greatest : (m : List ℕ) (k : ℕ) → HasRank T m k → slice_index r k ≢ 0 → degree m ≤ t
 
 -- s is r without what stands at the ranks from w on
 pub record IsCutAt (w : ℕ) (r s : List ℕ) : Type 0 where
@@ -53,11 +53,11 @@ pub record SubtractsRun (p c from to count : ℕ) (g r s : List ℕ) : Type 0 wh
   pub behind : (j : ℕ) → to + count ≤ j → slice_index s j ≡ slice_index r j
 
 -- s is r less c times the multiple of g by the monomial of rank a; what the multiple has beyond degree d is dropped
-pub record SubtractsMultiple (p n d c a : ℕ) (g r s : List ℕ) : Type 0 where
-  pub row : IsRow p (monomial_count n d) s
-  pub multiples : (x y : List ℕ) (j k : ℕ) → HasRank n d x a → HasRank n d y j → HasRank n d (mono_times x y) k
+pub record SubtractsMultiple (p : ℕ) (T : Shape) (c a : ℕ) (g r s : List ℕ) : Type 0 where
+  pub row : IsRow p (count T) s
+  pub multiples : (x y : List ℕ) (j k : ℕ) → HasRank T x a → HasRank T y j → HasRank T (mono_times x y) k
       → slice_index s k ≡ (slice_index r k + (p - c) * slice_index g j) % p
-  pub others : (x m : List ℕ) (k : ℕ) → HasRank n d x a → HasRank n d m k → (Divides x m → ⊥) → slice_index s k ≡ slice_index r k
+  pub others : (x m : List ℕ) (k : ℕ) → HasRank T x a → HasRank T m k → (Divides x m → ⊥) → slice_index s k ≡ slice_index r k
 
 -- the coefficient that a list of terms has at rank r: that of the first term of this rank
 abbrev pub term_coef : List Term → ℕ → ℕ

@@ -1,7 +1,7 @@
 //! The loops over the residues of rows.
 
 ghost use Rattle.std.specs.Prelude.{◌≡◌, ℕ, ◌+◌, ◌<◌, ◌≤◌, length};
-ghost use Rattle.local_order.specs.Count.{monomial_count};
+ghost use Rattle.local_order.specs.Shape.{count};
 ghost use Rattle.sparse_poly.specs.Poly.{IsCanonical};
 ghost use Rattle.trunc_row.specs.Rows.{IsRow, IsScaled, Subtracts, SubtractsRun, SubtractsMultiple, HasRisingRanks, IsRowOfTerms};
 ghost use Rattle.trunc_row.specs.Polynomials.{IsRowOf, IsWritten};
@@ -13,10 +13,10 @@ use sparse_poly::Poly;
 
 /// Writes the coefficients of a polynomial at the places of their ranks, and 0 elsewhere.
 pub(crate) fn write(row: &mut [u32], table: &RankTable, poly: &Poly)
-    requires places { length row.old ≡ monomial_count table.now.n table.now.d }
-    requires variables { poly.now.n ≡ table.now.n }
-    requires written { IsWritten table.now.n poly.now.terms }
-    ensures { (p : ℕ) → 0 < p → IsCanonical p table.now.n poly.now.terms → IsRowOf p table.now.n table.now.d poly.now.terms row.new }
+    requires places { length row.old ≡ count table.now }
+    requires variables { poly.now.n ≡ table.now.variables }
+    requires written { IsWritten table.now.variables poly.now.terms }
+    ensures { (p : ℕ) → 0 < p → IsCanonical p table.now.variables poly.now.terms → IsRowOf p table.now poly.now.terms row.new }
 {
     row.fill(0);
     for term in poly.terms() {
@@ -90,11 +90,11 @@ pub(crate) fn subtract_shifted(
     shift: u32,
     other: &[u32],
 )
-    requires own { IsRow field.now (monomial_count table.now.n table.now.d) row.old }
-    requires other { IsRow field.now (monomial_count table.now.n table.now.d) other.now }
+    requires own { IsRow field.now (count table.now) row.old }
+    requires other { IsRow field.now (count table.now) other.now }
     requires residue { c < field.now }
-    requires shift { shift < monomial_count table.now.n table.now.d }
-    ensures { SubtractsMultiple field.now table.now.n table.now.d c shift other.now row.old row.new }
+    requires shift { shift < count table.now }
+    ensures { SubtractsMultiple field.now table.now c shift other.now row.old row.new }
 {
     let count = table.count();
     let mut rank = 0;

@@ -12,9 +12,8 @@ returns-in-Some-clause-value c =
     let showing : Showing P c.args.entries.now c.in_ok-table.table c.in_ok-leads.leads.items c.in_ok-stair.stair = record {
       table_is = c.in_ok-table.ensures;
       leads_are = c.in_ok-leads.ensures.value;
-      variables = c.in_ok-stair.ensures.variables;
-      degree = c.in_ok-stair.ensures.degree;
-      stair = subst (λ l. IsStairOf c.in_ok-table.table.n c.in_ok-table.table.d l c.in_ok-stair.stair.ranks) c.deref.ensures.value c.in_ok-stair.ensures.ranks;
+      shape = c.in_ok-stair.ensures.shape;
+      stair = subst (λ l. IsStairOf c.in_ok-table.table l c.in_ok-stair.stair.ranks) c.deref.ensures.value c.in_ok-stair.ensures.ranks;
     } in
     missing P c.field-field.ensures.problem c.args.entries.now c.requires.legal c.requires.settled c.in_ok-table.table c.in_ok-leads.leads.items c.in_ok-stair.stair showing
     c.in-Some.rank c.mono.result c.in-Some.ensures c.mono.ensures
@@ -32,12 +31,11 @@ returns-clause-value c =
     let showing : Showing P entries table leads s = record {
       table_is = c.in_ok-table.ensures;
       leads_are = c.in_ok-leads.ensures.value;
-      variables = c.in_ok-stair.ensures.variables;
-      degree = c.in_ok-stair.ensures.degree;
-      stair = subst (λ l. IsStairOf table.n table.d l s.ranks) c.deref.ensures.value c.in_ok-stair.ensures.ranks;
+      shape = c.in_ok-stair.ensures.shape;
+      stair = subst (λ l. IsStairOf table l s.ranks) c.deref.ensures.value c.in_ok-stair.ensures.ranks;
     } in
-    let monos : c.from_vec.result ≡ map (mono_of_rank table.n table.d) s.ranks =
-    c.from_vec.ensures ∙ c.in_ok-monomials-in-None.ensures ∙ ap (map (mono_of_rank table.n table.d)) (c.as_slice.ensures ∙ c.list.ensures) in
+    let monos : c.from_vec.result ≡ map (mono_of_rank table) s.ranks =
+    c.from_vec.ensures ∙ c.in_ok-monomials-in-None.ensures ∙ ap (map (mono_of_rank table)) (c.as_slice.ensures ∙ c.list.ensures) in
     (fits P problem entries legal settled table leads s showing c.in-None.ensures, c.in_ok-reduced-in-None.ensures.basis, staircase P problem entries legal settled table leads s showing c.from_vec.result monos)
 
 pub returns-clause-ring : goal.returns-clause-ring

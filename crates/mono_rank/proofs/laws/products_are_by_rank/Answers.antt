@@ -2,10 +2,10 @@ use Rattle.mono_rank.proofs.Numbers.{rank_of_product, product_past_degree, quoti
 use Rattle.mono_rank.proofs.laws.products_are_by_rank.Goals as goal
 
 pub returns-clause-inside : goal.returns-clause-inside
-returns-clause-inside c n d p inv x y a b r some = rank_of_product n d x y a b r
+returns-clause-inside c T p inv x y a b r some = rank_of_product T x y a b r
 
 pub returns-clause-outside : goal.returns-clause-outside
-returns-clause-outside c n d p inv = product_past_degree n d
+returns-clause-outside c T p inv = product_past_degree T
 
 pub returns-clause-quotient : goal.returns-clause-quotient
-returns-clause-quotient c n d p inv x y a b some = quotient_of_ranks n d x y a b
+returns-clause-quotient c T p inv x y a b some = quotient_of_ranks T x y a b

@@ -9,4 +9,4 @@ pub returns-clause-one : goal.returns-clause-one
 returns-clause-one c = one_of_rank
 
 pub returns-clause-some : goal.returns-clause-some
-returns-clause-some c n d r some l = (walk n r, rank_reached n d r some l)
+returns-clause-some c T r some l = (walk T.variables r, rank_reached T r some l)

@@ -44,4 +44,4 @@ overflow_cast-result-2 c =
 pub returns : goal.returns
 returns c =
     let same : get_or c.args.counts.now (8 * (c.loop-i.before + 1) + c.n-n.result - 1) 0 - c.loop-i.rest ≡ place c.args.m.now = omega (arith, last_read c) in
-    same ∙ sym (rank_is (length c.args.m.now) c.args.d c.args.m.now c.n-n.ensures.valid.0 refl c.requires.low)
+    same ∙ sym (rank_is (record { variables = length c.args.m.now; degree = c.args.d }) c.args.m.now c.n-n.ensures.valid.0 refl c.requires.low)

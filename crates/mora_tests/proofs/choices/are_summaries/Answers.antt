@@ -6,7 +6,7 @@ use Rattle.mora_tests.proofs.choices.are_summaries.Goals as goal
 
 pub loop-i-preserved : goal.loop-i-preserved
 loop-i-preserved c =
-    All-more (IsSummary c.args.table.now.n c.args.table.now.d) c.args.list.now c.loop-i.i no_summary c.loop-i-test.true c.loop-i.invariant (c.is_summary.ensures c.if-not-is_summary.false)
+    All-more (IsSummary c.args.table.now) c.args.list.now c.loop-i.i no_summary c.loop-i-test.true c.loop-i.invariant (c.is_summary.ensures c.if-not-is_summary.false)
 
 pub returns : goal.returns
-returns c = λ h. subst (All (IsSummary c.args.table.now.n c.args.table.now.d)) (take_all c.loop-i.i c.args.list.now c.loop-i-test.false) c.loop-i.invariant
+returns c = λ h. subst (All (IsSummary c.args.table.now)) (take_all c.loop-i.i c.args.list.now c.loop-i-test.false) c.loop-i.invariant

@@ -3,4 +3,4 @@ use Rattle.ecart.specs.Choice.{IsSummary}
 use Rattle.mora_tests.proofs.choices.are_summaries.Given as goal
 
 abbrev pub invariant-loop-i : goal.invariant-loop-i
-invariant-loop-i l = All (IsSummary l.table.n l.table.d) (take l.i l.list)
+invariant-loop-i l = All (IsSummary l.table) (take l.i l.list)

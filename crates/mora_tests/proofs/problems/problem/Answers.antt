@@ -11,8 +11,8 @@ new-requires-clause-problem c =
     let n = c.args.n in
     let d = c.args.d in
     let are = c.loop-terms.invariant in
-    let table : HasLimits c.args.table.now.n c.args.table.now.d = c.count-count.ensures.limits in
-    let within : HasLimits n d = subst (λ k. HasLimits n k) c.requires.degree (subst (λ k. HasLimits k c.args.table.now.d) c.requires.variables table) in
+    let table : HasLimits c.args.table.now = c.count-count.ensures.limits in
+    let within : HasLimits (record { variables = n; degree = d }) = subst (λ k. HasLimits (record { variables = n; degree = k })) c.requires.degree (subst (λ k. HasLimits (record { variables = k; degree = c.args.table.now.degree })) c.requires.variables table) in
     record {
       prime = c.prime-prime.ensures.offered;
       some = within.some;

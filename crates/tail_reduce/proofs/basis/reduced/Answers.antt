@@ -1,7 +1,8 @@
 use Rattle.std.proofs.Common.{◌≡◌, ◌<◌, ◌++◌, ◌∷◌, [], length, map, take, All, sym, ◌∙◌, ap, ap₂, subst, arith}
 use Rattle.std.proofs.lemmas.List.{map_more, take_all}
 use Rattle.local_order.specs.Count.{monomial_count}
-use Rattle.mono_rank.specs.Stored.{Shape}
+use Rattle.local_order.specs.Shape.{Shape, count}
+use Rattle.sparse_poly.specs.Shape.{shape_of}
 use Rattle.mora_law.specs.Ring.{ranks_of_problem}
 use Rattle.mora_law.proofs.Ring.{ranks_are, problem_is_admissible}
 use Rattle.mora_law.specs.Entries.{basis_of}
@@ -49,26 +50,26 @@ member-requires-clause-firsts c =
     let P = c.args.problem.now in
     let B = basis_of c.args.entries.now in
     let leads = leads_are P c.args.entries.now c.args.table.now c.deref.result.now c.requires.table (c.deref.ensures.value ∙ c.in_ok-leads.ensures) in
-    subst (AreFirsts (ranks_of_problem P) B (monomial_count P.n P.d)) (sym c.deref-in-loop-place.ensures.value)
-    (subst (λ (t : Shape). AreFirsts (ranks_of_problem P) B (monomial_count t.n t.d) c.in_ok-firsts.firsts.items) c.requires.table (c.in_ok-firsts.ensures P B leads))
+    subst (AreFirsts (ranks_of_problem P) B (count (shape_of P))) (sym c.deref-in-loop-place.ensures.value)
+    (subst (λ (t : Shape). AreFirsts (ranks_of_problem P) B (count t) c.in_ok-firsts.firsts.items) c.requires.table (c.in_ok-firsts.ensures P B leads))
 
 pub member-requires-clause-corner : goal.member-requires-clause-corner
 member-requires-clause-corner c =
     let P = c.args.problem.now in
     let B = basis_of c.args.entries.now in
     let leads = leads_are P c.args.entries.now c.args.table.now c.deref.result.now c.requires.table (c.deref.ensures.value ∙ c.in_ok-leads.ensures) in
-    let count : (ranks_of_problem P).n ≡ c.count.result = ranks_n P ∙ sym (ap (λ (t : Shape). monomial_count t.n t.d) c.requires.table) ∙ sym c.count.ensures.value in
+    let count : (ranks_of_problem P).n ≡ c.count.result = ranks_n P ∙ sym (ap (λ (t : Shape). monomial_count t.variables t.degree) c.requires.table) ∙ sym c.count.ensures.value in
     c.corner_from-corner.ensures (ranks_of_problem P) B (ranks_are P (problem_is_admissible P c.field-field.ensures.problem)) count
     (subst (λ k. AreFirsts (ranks_of_problem P) B k c.deref-2.result.now) (sym c.count.ensures.value)
-    (subst (AreFirsts (ranks_of_problem P) B (monomial_count c.args.table.now.n c.args.table.now.d)) (sym c.deref-2.ensures.value) (c.in_ok-firsts.ensures P B leads)))
+    (subst (AreFirsts (ranks_of_problem P) B (monomial_count c.args.table.now.variables c.args.table.now.degree)) (sym c.deref-2.ensures.value) (c.in_ok-firsts.ensures P B leads)))
 
 pub member-requires-clause-place : goal.member-requires-clause-place
 member-requires-clause-place c =
     let P = c.args.problem.now in
     let B = basis_of c.args.entries.now in
     let leads = leads_are P c.args.entries.now c.args.table.now c.deref-3.result.now c.requires.table (c.deref-3.ensures.value ∙ c.in_ok-leads.ensures) in
-    let is : c.deref-place-items.result.now ≡ minimal_places (ranks_of_problem P) B (monomial_count c.args.table.now.n c.args.table.now.d) = c.deref-place-items.ensures.value ∙ c.in_ok-places.ensures P B leads in
-    subst (All (λ k. k < length c.args.entries.now)) (sym is) (places_small (ranks_of_problem P) B (monomial_count c.args.table.now.n c.args.table.now.d)) c.loop-place.place-index 0 c.loop-place-test.true
+    let is : c.deref-place-items.result.now ≡ minimal_places (ranks_of_problem P) B (count c.args.table.now) = c.deref-place-items.ensures.value ∙ c.in_ok-places.ensures P B leads in
+    subst (All (λ k. k < length c.args.entries.now)) (sym is) (places_small (ranks_of_problem P) B (count c.args.table.now)) c.loop-place.place-index 0 c.loop-place-test.true
 
 pub loop-place-preserved : goal.loop-place-preserved
 loop-place-preserved c =
@@ -87,8 +88,8 @@ returns-clause-plain c =
     let B = basis_of entries in
     let items = c.deref-place-items.result.now in
     let leads = leads_are P c.args.entries.now c.args.table.now c.deref-3.result.now c.requires.table (c.deref-3.ensures.value ∙ c.in_ok-leads.ensures) in
-    let is : items ≡ minimal_places (ranks_of_problem P) B (monomial_count P.n P.d) =
-    c.deref-place-items.ensures.value ∙ c.in_ok-places.ensures P B leads ∙ ap (λ (t : Shape). minimal_places (ranks_of_problem P) B (monomial_count t.n t.d)) c.requires.table in
+    let is : items ≡ minimal_places (ranks_of_problem P) B (count (shape_of P)) =
+    c.deref-place-items.ensures.value ∙ c.in_ok-places.ensures P B leads ∙ ap (λ (t : Shape). minimal_places (ranks_of_problem P) B (count t)) c.requires.table in
     let all : take c.loop-place.place-index items ≡ items = take_all c.loop-place.place-index items (omega (arith, c.loop-place-test.false)) in
     ap (map (λ (f : Polynomial). f.terms)) (c.loop-place.invariant ∙ ap (map (member_of P entries)) (all ∙ is)) ∙ members_are P entries
 
@@ -99,8 +100,8 @@ returns-clause-basis c =
     let B = basis_of entries in
     let items = c.deref-place-items.result.now in
     let leads = leads_are P c.args.entries.now c.args.table.now c.deref-3.result.now c.requires.table (c.deref-3.ensures.value ∙ c.in_ok-leads.ensures) in
-    let is : items ≡ minimal_places (ranks_of_problem P) B (monomial_count P.n P.d) =
-    c.deref-place-items.ensures.value ∙ c.in_ok-places.ensures P B leads ∙ ap (λ (t : Shape). minimal_places (ranks_of_problem P) B (monomial_count t.n t.d)) c.requires.table in
+    let is : items ≡ minimal_places (ranks_of_problem P) B (count (shape_of P)) =
+    c.deref-place-items.ensures.value ∙ c.in_ok-places.ensures P B leads ∙ ap (λ (t : Shape). minimal_places (ranks_of_problem P) B (count t)) c.requires.table in
     let all : take c.loop-place.place-index items ≡ items = take_all c.loop-place.place-index items (omega (arith, c.loop-place-test.false)) in
     subst (IsReducedBasis P) (sym (ap (map (λ (f : Polynomial). f.terms)) (c.loop-place.invariant ∙ ap (map (member_of P entries)) (all ∙ is)) ∙ members_are P entries))
     (basis_is_reduced P (problem_is_admissible P c.field-field.ensures.problem) entries c.requires.legal c.requires.settled)

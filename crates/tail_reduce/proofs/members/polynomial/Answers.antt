@@ -1,8 +1,8 @@
 use Rattle.std.proofs.Common.{◌≡◌, refl, ◌++◌, ◌∷◌, [], get_or, sym, ◌∙◌, ap, subst, arith}
 use Rattle.std.proofs.lemmas.Result.{IfOk-weaker}
-use Rattle.local_order.specs.Count.{monomial_count}
+use Rattle.local_order.specs.Shape.{Shape, count}
+use Rattle.sparse_poly.specs.Shape.{shape_of}
 use Rattle.mono_rank.specs.Rank.{HasRank}
-use Rattle.mono_rank.specs.Stored.{Shape}
 use Rattle.sparse_poly.specs.Poly.{Polynomial, IsIn, in_variables}
 use Rattle.sparse_poly.specs.Canonical.{canonical}
 use Rattle.rank_algebra.specs.Vector.{Vector}
@@ -21,7 +21,7 @@ loop-rank-preserved c =
     let k = c.loop-rank.rank in
     elim c.if-coef-ne0.branch [
       | then-coef-ne0+in_ok-push w ↦
-          let ranked : HasRank P.n P.d w.mono.result k = subst (λ (t : Shape). HasRank t.n t.d w.mono.result k) c.requires.table w.mono.ensures in
+          let ranked : HasRank (shape_of P) w.mono.result k = subst (λ (t : Shape). HasRank t w.mono.result k) c.requires.table w.mono.ensures in
           ap (λ v. v.items) w.terms-is ∙ w.in_ok-push.ensures.items
           ∙ ap (λ f. f ++ record { mono = w.mono.result; coef = get_or r k 0 } ∷ []) c.loop-rank.invariant
           ∙ terms_this P r k (get_or r k 0) w.mono.result c.requires.row refl w.if-coef-ne0.true ranked
@@ -32,8 +32,8 @@ loop-rank-preserved c =
 pub from_terms-requires-clause-own : goal.from_terms-requires-clause-own
 from_terms-requires-clause-own c =
     let P = c.args.problem.now in
-    let end : c.loop-rank.rank ≡ monomial_count P.n P.d =
-    omega (arith, c.loop-rank-test.false, c.loop-rank.auto.rank-end, c.count-rank-end.ensures.value, ap (λ (t : Shape). monomial_count t.n t.d) c.requires.table) in
+    let end : c.loop-rank.rank ≡ count (shape_of P) =
+    omega (arith, c.loop-rank-test.false, c.loop-rank.auto.rank-end, c.count-rank-end.ensures.value, ap (λ (t : Shape). count t) c.requires.table) in
     let is = c.loop-rank.invariant ∙ ap (poly_of_terms P) (terms_all P c.args.row.now c.loop-rank.rank end) in
     subst (λ n. IsIn n c.loop-rank.terms.items) (sym c.n.ensures.value)
     (subst (IsIn P.n) (sym is) (terms_in P (vector_of_row c.args.row.now) (problem_is_admissible P c.n.ensures.problem)))
@@ -42,8 +42,8 @@ pub returns : goal.returns
 returns c =
     let P = c.args.problem.now in
     let r = c.args.row.now in
-    let end : c.loop-rank.rank ≡ monomial_count P.n P.d =
-    omega (arith, c.loop-rank-test.false, c.loop-rank.auto.rank-end, c.count-rank-end.ensures.value, ap (λ (t : Shape). monomial_count t.n t.d) c.requires.table) in
+    let end : c.loop-rank.rank ≡ count (shape_of P) =
+    omega (arith, c.loop-rank-test.false, c.loop-rank.auto.rank-end, c.count-rank-end.ensures.value, ap (λ (t : Shape). count t) c.requires.table) in
     let is : c.loop-rank.terms.items ≡ poly_of_terms P (terms_of (ranks_of_problem P) (vector_of_row r)) = c.loop-rank.invariant ∙ ap (poly_of_terms P) (terms_all P r c.loop-rank.rank end) in
     IfOk-weaker c.from_terms.result (λ (f : Polynomial). f ≡ record { n = c.n.result; terms = canonical c.field.result.now c.loop-rank.terms.items })
     (λ (f : Polynomial). (v : Vector) → HasVector P v r → f ≡ in_variables P.n (poly_of_terms P (terms_of (ranks_of_problem P) v)))

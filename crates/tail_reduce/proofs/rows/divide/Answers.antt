@@ -1,6 +1,7 @@
 use Rattle.std.proofs.Common.{◌≡◌, ◌+◌, ◌<◌, get_or, Some, None, option_map, refl, sym, ◌∙◌, ap, subst, arith}
 use Rattle.std.proofs.lemmas.Option.{get_or_from_slice_get}
-use Rattle.local_order.specs.Count.{monomial_count}
+use Rattle.local_order.specs.Shape.{count}
+use Rattle.sparse_poly.specs.Shape.{shape_of}
 use Rattle.entry_code.specs.Entry.{Entry, entry_of, no_entry, entry_at}
 use Rattle.rank_algebra.specs.Vector.{Vector, shift, less}
 use Rattle.rank_algebra.specs.Division.{first_lead}
@@ -22,19 +23,19 @@ loop-rank-init c = divided_start c.args.problem.now (basis_of c.args.entries.now
 pub get-entry-requires : goal.get-entry-requires
 get-entry-requires c =
     let P = c.args.problem.now in
-    let low : c.loop-rank.rank < monomial_count P.n P.d = omega (arith, c.loop-rank-test.true, c.requires.corner) in
+    let low : c.loop-rank.rank < count (shape_of P) = omega (arith, c.loop-rank-test.true, c.requires.corner) in
     (stored_known P (basis_of c.args.entries.now) c.args.firsts.now c.loop-rank.rank c.in-Some.divisor (problem_is_admissible P c.requires.problem) low c.requires.firsts c.in-Some.is).0
 
 pub subtract-requires-clause-cofactor : goal.subtract-requires-clause-cofactor
 subtract-requires-clause-cofactor c =
     let P = c.args.problem.now in
-    let low : c.loop-rank.rank < monomial_count P.n P.d = omega (arith, c.loop-rank-test.true, c.requires.corner) in
+    let low : c.loop-rank.rank < count (shape_of P) = omega (arith, c.loop-rank-test.true, c.requires.corner) in
     (stored_known P (basis_of c.args.entries.now) c.args.firsts.now c.loop-rank.rank c.in-Some.divisor (problem_is_admissible P c.requires.problem) low c.requires.firsts c.in-Some.is).1
 
 pub subtract-requires-clause-terms : goal.subtract-requires-clause-terms
 subtract-requires-clause-terms c =
     let P = c.args.problem.now in
-    let low : c.loop-rank.rank < monomial_count P.n P.d = omega (arith, c.loop-rank-test.true, c.requires.corner) in
+    let low : c.loop-rank.rank < count (shape_of P) = omega (arith, c.loop-rank-test.true, c.requires.corner) in
     let known = stored_known P (basis_of c.args.entries.now) c.args.firsts.now c.loop-rank.rank c.in-Some.divisor (problem_is_admissible P c.requires.problem) low c.requires.firsts c.in-Some.is in
     terms_at P c.args.entries.now c.in-Some.divisor.place c.get-entry.result.now c.requires.entries known.0 c.get-entry.ensures
 
@@ -46,7 +47,7 @@ loop-rank-preserved c =
     let r = c.loop-rank.rank in
     let old = c.args.row.now in
     let middle = c.loop-rank.row in
-    let low : r < monomial_count P.n P.d = omega (arith, c.loop-rank-test.true, c.requires.corner) in
+    let low : r < count (shape_of P) = omega (arith, c.loop-rank-test.true, c.requires.corner) in
     elim c.if-c-ne0.branch [
       | then-c-ne0+in-Some w ↦
           let first : first_lead (ranks_of_problem P) B r ≡ Some (hit_of w.in-Some.divisor) = sym (c.requires.firsts.each r low) ∙ ap (option_map hit_of) w.in-Some.is in
@@ -63,7 +64,7 @@ loop-rank-preserved c =
     ]
 
 pub returns-clause-row : goal.returns-clause-row
-returns-clause-row c = cut_residues c.args.problem.now.p (monomial_count c.args.problem.now.n c.args.problem.now.d) c.args.corner c.loop-rank.row c.cut.new.row c.loop-rank.invariant.row c.cut.ensures
+returns-clause-row c = cut_residues c.args.problem.now.p (count (shape_of c.args.problem.now)) c.args.corner c.loop-rank.row c.cut.new.row c.loop-rank.invariant.row c.cut.ensures
 
 pub returns-clause-value : goal.returns-clause-value
 returns-clause-value c = λ v h.
@@ -71,5 +72,5 @@ returns-clause-value c = λ v h.
     let B = basis_of c.args.entries.now in
     let end : c.loop-rank.rank ≡ c.args.corner = omega (arith, c.loop-rank-test.false, c.loop-rank.auto.rank-end) in
     divided_all P B c.args.corner c.args.row.now c.loop-rank.row c.cut.new.row v
-    (cut_residues P.p (monomial_count P.n P.d) c.args.corner c.loop-rank.row c.cut.new.row c.loop-rank.invariant.row c.cut.ensures) c.cut.ensures
+    (cut_residues P.p (count (shape_of P)) c.args.corner c.loop-rank.row c.cut.new.row c.loop-rank.invariant.row c.cut.ensures) c.cut.ensures
     (subst (λ k. DividedTo P B k c.args.row.now c.loop-rank.row) end c.loop-rank.invariant) h

@@ -1,6 +1,6 @@
 use Rattle.std.proofs.Common.{length, ◌≡◌, ◌+◌, ◌-◌, ◌*◌, ◌%◌, get_or, ◌∙◌, ap, arith}
-use Rattle.local_order.specs.Count.{monomial_count}
-use Rattle.mono_rank.specs.Stored.{Shape}
+use Rattle.local_order.specs.Shape.{Shape, count}
+use Rattle.sparse_poly.specs.Shape.{shape_of}
 use Rattle.mora_law.proofs.Ring.{problem_is_admissible}
 use Rattle.tail_reduce.proofs.Ranked.{product_is, product_is_past}
 use Rattle.tail_reduce.proofs.Terms.{term_small, rank_small}
@@ -11,13 +11,13 @@ pub loop-k-init : goal.loop-k-init
 loop-k-init c = subtracted_none c.args.problem.now c.args.c c.args.cofactor c.args.terms.now.list c.args.row.now c.requires.row
 
 pub times_rank-requires-clause-first : goal.times_rank-requires-clause-first
-times_rank-requires-clause-first c = omega (arith, c.requires.cofactor, ap (λ (t : Shape). monomial_count t.n t.d) c.requires.table)
+times_rank-requires-clause-first c = omega (arith, c.requires.cofactor, ap (λ (t : Shape). count t) c.requires.table)
 
 pub times_rank-requires-clause-second : goal.times_rank-requires-clause-second
 times_rank-requires-clause-second c =
     let P = c.args.problem.now in
     let small = rank_small P c.args.terms.now.list c.loop-k.k c.get-term.result c.requires.terms c.get-term.ensures in
-    omega (arith, small, ap (λ (t : Shape). monomial_count t.n t.d) c.requires.table)
+    omega (arith, small, ap (λ (t : Shape). count t) c.requires.table)
 
 pub bounds-row-place : goal.bounds-row-place
 bounds-row-place c =
@@ -29,7 +29,7 @@ bounds-row-place c =
 pub mul-requires-clause-b_residue : goal.mul-requires-clause-b_residue
 mul-requires-clause-b_residue c =
     let P = c.args.problem.now in
-    let small = term_small P.p (monomial_count P.n P.d) 0 c.args.terms.now.list c.loop-k.k c.get-term.result c.requires.terms.falling c.get-term.ensures in
+    let small = term_small P.p (count (shape_of P)) 0 c.args.terms.now.list c.loop-k.k c.get-term.result c.requires.terms.falling c.get-term.ensures in
     omega (arith, small.2, c.field-field.ensures.value)
 
 pub loop-k-preserved : goal.loop-k-preserved

@@ -1,12 +1,12 @@
 use Rattle.std.proofs.Common.{◌≡◌, [], length, None, true, ap, sym, ◌∙◌, subst}
-use Rattle.local_order.specs.Count.{monomial_count}
+use Rattle.local_order.specs.Shape.{count}
 use Rattle.rank_algebra.specs.Vector.{Agree}
 use Rattle.mora_law.specs.Ring.{ranks_of_problem, generators_of}
 use Rattle.mora_law.specs.Legal.{IsItemOf}
 use Rattle.mora_law.specs.Start.{start_of, start}
 use Rattle.mora_form.specs.State.{ring_of, vector_of_row, Knows, IsOver, HasRun}
 use Rattle.mora_form.specs.Begin.{basis_in}
-use Rattle.mora_form.specs.Inside.{state_of}
+use Rattle.mora_form.specs.Inside.{shape_in, state_of}
 use Rattle.mora_form.proofs.Runs.{begun, has_begun}
 use Rattle.mora_form.proofs.mora.Mora.start.Goals as goal
 
@@ -16,11 +16,9 @@ returns-clause-poly c = λ entries h.
     let s = state_of I in
     let P = c.args.problem.now in
     let v = c.self.view_is in
-    let n : c.args.table.now.n ≡ I.n = c.requires.table.variables ∙ ap (λ x. x.n) (sym v) in
-    let d : c.args.table.now.d ≡ I.d = c.requires.table.degree ∙ ap (λ x. x.d) (sym v) in
-    let a : Agree (ranks_of_problem P) (monomial_count I.n I.d) (vector_of_row c.begin.new.row) (start_of (ranks_of_problem P) (generators_of P) (basis_in s.known I.known.summaries.items) c.args.item) =
-    subst (λ x. Agree (ranks_of_problem P) (monomial_count x I.d) (vector_of_row c.begin.new.row) (start_of (ranks_of_problem P) (generators_of P) (basis_in s.known I.known.summaries.items) c.args.item)) n
-    (subst (λ x. Agree (ranks_of_problem P) (monomial_count c.args.table.now.n x) (vector_of_row c.begin.new.row) (start_of (ranks_of_problem P) (generators_of P) (basis_in s.known I.known.summaries.items) c.args.item)) d c.begin.ensures.start) in
+    let same : c.args.table.now ≡ shape_in I = c.requires.table ∙ ap (λ x. x.shape) (sym v) in
+    let a : Agree (ranks_of_problem P) (count (shape_in I)) (vector_of_row c.begin.new.row) (start_of (ranks_of_problem P) (generators_of P) (basis_in s.known I.known.summaries.items) c.args.item) =
+    subst (λ x. Agree (ranks_of_problem P) (count x) (vector_of_row c.begin.new.row) (start_of (ranks_of_problem P) (generators_of P) (basis_in s.known I.known.summaries.items) c.args.item)) same c.begin.ensures.start in
     subst (λ x. Agree (ring_of x) (ring_of x).n (vector_of_row c.begin.new.row) (start P entries c.args.item)) v
     (begun P s c.self.invariant.field c.self.invariant.limits.some entries I.known.summaries.items c.args.item c.begin.new.row (subst (IsOver P) (sym v) c.requires.problem) (subst (Knows entries) (sym v) h)
     c.self.invariant.known.summarized (subst (λ x. IsItemOf (length P.gens) (length x.known) c.args.item) (sym v) c.requires.item) a)
