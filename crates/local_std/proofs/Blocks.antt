@@ -1,14 +1,14 @@
 -- The blocks of the first commands, and of one more.
-use Rattle.std.proofs.Common.{◌≡◌, ℕ, ◌+◌, ◌≤◌, List, [], ◌∷◌, ◌++◌, length, refl, sym, ◌∙◌, ap, arith, subst, take, append_assoc, Bool, true, false, ◌&&◌, Some, add-zero, add-one, length-take-le}
+use Rattle.std.proofs.Common.{◌≡◌, ℕ, ◌+◌, ◌≤◌, List, [], ◌∷◌, ◌++◌, length, refl, sym, ◌∙◌, ap, arith, subst, take, append_assoc, Bool, true, false, ◌&&◌, Some, add-zero, length-take-le}
 use Rattle.std.specs.Prelude.{slice_get, Contains}
 use Rattle.std.specs.Bool.{OnTrue, OnFalse}
-use Rattle.std.proofs.Math.Seq.{take-suc}
 use Rattle.std.proofs.lemmas.List.{append-nil, take_all}
 use Rattle.std.proofs.lemmas.List.Elements.{All-more, Contains-append_left, Contains-push}
 use Rattle.std.proofs.lemmas.Option.{slice_get_within, get_or_from_slice_get}
 use Rattle.sparse_poly.specs.Ideal.{Fits}
 use Rattle.script_grammar.specs.declared.script.Command.{Command}
 use Rattle.script_grammar.specs.declared.script.Script.{Script}
+use Rattle.local_std.proofs.Prefixes.{first_and_next}
 use Rattle.local_std.specs.Answer.{problem_of, IsBlock, AreBlocks, AllFit, SomeIsSmall}
 
 -- the degree fits for a command
@@ -24,13 +24,6 @@ pub record AreDone (s : Script) (cs : List Command) (text : List ℕ) (fits : Bo
   pub blocks : AreBlocks s 1 cs text
   pub fit : OnTrue fits (AllFit s cs)
   pub small : OnFalse fits (SomeIsSmall s cs)
-
--- the first commands, with the one at the next place
-pub first_and_next : (cs : List Command) (k : ℕ) (c : Command) → slice_get cs k ≡ Some c → take (k + 1) cs ≡ take k cs ++ c ∷ []
-first_and_next cs k c at =
-    ap (λ j. take j cs) (add-one k)
-    ∙ take-suc cs k c (slice_get_within cs k c at)
-    ∙ ap (λ d. take k cs ++ d ∷ []) (get_or_from_slice_get cs k c c at)
 
 -- one block more
 blocks_push : (s : Script) (i : ℕ) (cs : List Command) (c : Command) (text block : List ℕ) → AreBlocks s i cs text → IsBlock s (i + length cs) c block → AreBlocks s i (cs ++ c ∷ []) (text ++ block)

@@ -1,6 +1,7 @@
 pub mod Built
 pub mod Rings
 mod Settled
+pub mod Prefixes
 pub mod Blocks
 pub mod Ends
 pub mod Dues

@@ -7,4 +7,5 @@ pub mod Texts
 pub mod Scripts
 pub mod Due
 pub mod View
+pub mod Solved
 pub mod Number

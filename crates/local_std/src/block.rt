@@ -1,16 +1,21 @@
 // The blocks that answer the commands of a script.
-ghost use Rattle.std.specs.Prelude.{◌≡◌, IfOk, string_bytes, if◌then◌else◌};
+ghost use Rattle.std.specs.Prelude.{◌≡◌, All, IfOk, length, string_bytes, if◌then◌else◌};
+ghost use Rattle.std.specs.Str.{IsAscii};
 ghost use Rattle.std.specs.Bool.{OnTrue, OnFalse};
 ghost use Rattle.sparse_poly.specs.Ideal.{Fits};
 ghost use Rattle.ring_reader.specs.Coherent.{IsCoherent, BelongsTo};
 ghost use Rattle.local_std.specs.Built.{IsBuilt, AllBuilt};
-ghost use Rattle.local_std.specs.Answer.{problem_of, IsBlock, IsAnswer, AllFit, SomeIsSmall};
+ghost use Rattle.text_out.specs.Answers.{IsInRing};
+ghost use Rattle.text_out.specs.Block.{IsIdeal, characteristic_of};
+ghost use Rattle.local_std.specs.Solved.{IsSolved};
+ghost use Rattle.local_std.specs.Answer.{problem_of, IsAnswerOf, IsBlock, IsAnswer, AllFit, SomeIsSmall};
 
 use crate::answer::{answer_of, is_fitting};
 use crate::outcome::Status;
+use crate::solved::{Solved, answer_among};
 use ring_reader::{Command, Script, Subject};
 use std::alloc::{AllocError, Global};
-use text_out::block_text;
+use text_out::{Answer, block_text};
 
 /// The blocks of some commands, and whether the degree fits for each.
 #[derive(Drop)]
@@ -32,7 +37,7 @@ impl Blocks {
     }
 }
 
-/// The blocks of all commands, in order.
+/// The blocks of all commands, in order. A problem that several commands have is solved once.
 pub fn blocks_of(alloc: Global, script: &Script) -> Result<Blocks, AllocError>
     requires coherent { IsCoherent script.now }
     requires built { AllBuilt script.now.commands }
@@ -40,36 +45,66 @@ pub fn blocks_of(alloc: Global, script: &Script) -> Result<Blocks, AllocError>
     ensures fits { IfOk result (λ b. OnTrue b.fits (AllFit script.now script.now.commands)) }
     ensures small { IfOk result (λ b. OnFalse b.fits (SomeIsSmall script.now script.now.commands)) }
 {
+    let mut solved = Vec::new(alloc);
     let mut fits = true;
     let mut text = String::new(alloc);
     for k in 0..script.commands.len() {
-        let block = block_of(alloc, script, k as u32 + 1, script.commands.get(k))?;
+        let command = script.commands.get(k);
+        let block = block_of(alloc, script, k as u32 + 1, command, &mut solved)?;
         text.push_str(&block.text)?;
         fits = fits && block.fits;
     }
     Ok(Blocks { fits, text })
 }
 
-/// The block of a command, with its number.
-fn block_of(
+/// The block of a command, with its number. Its problem is solved, unless it is among those that were.
+fn block_of<'a>(
     alloc: Global,
     script: &Script,
     index: u32,
-    command: &Command,
+    command: &'a Command,
+    solved: &mut Vec<Solved<'a>>,
 ) -> Result<Blocks, AllocError>
     requires belongs { BelongsTo script.now command.now }
     requires built { IsBuilt command.now.word }
+    requires solved { All IsSolved solved.old.items }
     ensures text { IfOk result (λ b. IsBlock script.now index command.now (string_bytes b.text)) }
     ensures fits { IfOk result (λ b. OnTrue b.fits (Fits (problem_of script.now command.now))) }
     ensures small { IfOk result (λ b. OnFalse b.fits (Fits (problem_of script.now command.now) → ⊥)) }
+    ensures solved { IfOk result (λ b. All IsSolved solved.new.items) }
 {
     let Subject::Ideal(problem) = &command.subject else {
         unreachable!()
     };
+    if let Some(answer) = answer_among(solved, problem) {
+        return block_with(alloc, script, index, command, answer);
+    }
     let answer = answer_of(alloc, problem)?;
-    let text = block_text(alloc, index, &script.letters, command, &answer)?;
+    let block = block_with(alloc, script, index, command, &answer)?;
+    solved.push(Solved { problem, answer })?;
+    Ok(block)
+}
+
+/// The block of a command on an ideal whose problem has this answer.
+fn block_with(
+    alloc: Global,
+    script: &Script,
+    index: u32,
+    command: &Command,
+    answer: &Answer,
+) -> Result<Blocks, AllocError>
+    requires built { IsBuilt command.now.word }
+    requires subject { IsIdeal command.now.subject }
+    requires name { IsAscii command.now.name }
+    requires ring { IsInRing (characteristic_of command.now.subject) (length script.now.letters) answer.now }
+    requires value { IsAnswerOf (problem_of script.now command.now) answer.now }
+    ensures text { IfOk result (λ b. IsBlock script.now index command.now (string_bytes b.text)) }
+    ensures fits { IfOk result (λ b. OnTrue b.fits (Fits (problem_of script.now command.now))) }
+    ensures small { IfOk result (λ b. OnFalse b.fits (Fits (problem_of script.now command.now) → ⊥)) }
+{
+    let text = block_text(alloc, index, &script.letters, command, answer)?;
     Ok(Blocks {
-        fits: is_fitting(&answer),
+        fits: is_fitting(answer),
         text,
     })
 }

@@ -11,6 +11,8 @@ pub mod laws;
 mod outcome;
 mod refusal;
 mod reply;
+mod same;
+mod solved;
 mod top;
 mod unbuilt;
 mod words;

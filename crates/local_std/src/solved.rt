@@ -1,0 +1,30 @@
+// The problems that were solved for a script, each once.
+ghost use Rattle.std.specs.Prelude.{◌≡◌, All, IfSome};
+ghost use Rattle.text_out.specs.Answers.{IsInRing};
+ghost use Rattle.local_std.specs.Answer.{IsAnswerOf};
+ghost use Rattle.local_std.specs.Solved.{IsSolved};
+
+use crate::same::is_same_problem;
+use sparse_poly::Problem;
+use text_out::Answer;
+
+/// A problem, and its answer.
+#[derive(Drop)]
+pub struct Solved<'a> {
+    pub problem: &'a Problem,
+    pub answer: Answer,
+}
+
+/// The answer of the problem, where it was solved.
+pub fn answer_among<'b>(solved: &'b [Solved<'_>], problem: &Problem) -> Option<&'b Answer>
+    requires { All IsSolved solved.now }
+    ensures value { IfSome result (λ a. IsAnswerOf problem.now a.now) }
+    ensures ring { IfSome result (λ a. IsInRing problem.now.p problem.now.n a.now) }
+{
+    for one in solved {
+        if is_same_problem(one.problem, problem) {
+            return Some(&one.answer);
+        }
+    }
+    None
+}
