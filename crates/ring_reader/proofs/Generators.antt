@@ -1,5 +1,5 @@
 -- Members: the refusal where there is no room, derivatives one by one, and the loop over members.
-use Rattle.std.proofs.Common.{◌≡◌, ℕ, zero, suc, ◌+◌, ◌<◌, ◌≤◌, ◌++◌, true, false, cond, not, Bool, List, [], ◌∷◌, length, map, Result, Ok, Err, refl, sym, ap, subst, ◌∙◌, arith}
+use Rattle.std.proofs.Common.{◌≡◌, ℕ, zero, suc, ◌+◌, ◌<◌, ◌≤◌, ◌++◌, true, false, cond, Bool, List, [], ◌∷◌, length, map, Result, Ok, Err, refl, sym, ap, subst, ◌∙◌, arith}
 use Rattle.std.proofs.lemmas.List.{length-append, length-map, map-append}
 use Rattle.std.proofs.lemmas.List.FromFn.{length-map-range_with_len, map-range_with_len_more}
 use Rattle.std.specs.Prelude.{codes}
@@ -7,11 +7,10 @@ use Rattle.std.specs.List.{range_with_len}
 use Rattle.std.proofs.lemmas.Bool.{le-ltb}
 use mathlib.Core.List.{append_assoc}
 use Rattle.script_grammar.specs.declared.refusal.Refusal.{Refusal}
-use Rattle.script_grammar.specs.declared.refusal.ReadKind.{ReadKind}
 use Rattle.script_grammar.specs.declared.refusal.What.TheVariants as whats
 use Rattle.sparse_poly.specs.Poly.{Poly, Polynomial, in_variables}
 use Rattle.script_grammar.specs.Tokens.{Place, next, word}
-use Rattle.script_grammar.specs.Words.{is_numeral, is_one_of, keywords, is_short, has_large, is_the_mark, is_the_word}
+use Rattle.script_grammar.specs.Words.{is_the_mark, is_the_word}
 use Rattle.script_grammar.specs.Trees.{Member, generator, jacobian, Members, only, more}
 use Rattle.script_grammar.specs.Steps.{◌>>=◌, refused, wanted, mark_at}
 use Rattle.script_grammar.specs.Expressions.{Declarations}

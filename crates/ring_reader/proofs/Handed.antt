@@ -6,7 +6,10 @@ use Rattle.std.specs.Result.{IsErrAnd}
 use Rattle.std.proofs.lemmas.Result.{err_from_is_err_and}
 use Rattle.script_grammar.specs.declared.refusal.Refusal.{Refusal}
 use Rattle.ring_reader.specs.declared.stop.Stop.{Stop}
+use Rattle.script_tokens.specs.declared.token.Place.{Place as Seen}
+use Rattle.ring_reader.specs.declared.names.Names.{Names}
 use Rattle.ring_reader.specs.Gives.{Fails, Gives, meant}
+use Rattle.ring_reader.specs.ReadsValue.{ReadsValue}
 use Rattle.script_grammar.specs.Tokens.{Place}
 use Rattle.script_grammar.specs.Steps.{◌>>=◌}
 use Rattle.std.specs.Prelude.{All}
@@ -15,6 +18,10 @@ use Rattle.std.proofs.lemmas.List.Elements.{All-append, All-cons}
 -- What failed with a reason gives that reason.
 pub gives_failed : {X Y : Type 0} (view : X → Y) (r : Result X Stop) (e : Stop) (read : Result Y Refusal) → IsErrAnd r (λ x. x ≡ e) → Fails e read → Gives view r read
 gives_failed view r e read h f = let p = err_from_is_err_and r h in rw (p.1, p.2) f
+
+-- What failed with a reason reads no value for that reason.
+pub value_failed : {X Y : Type 0} (names : Names) (left : ℕ) (view : X → Y) (poly : X → Polynomial) (r : Result (X × Seen) Stop) (e : Stop) (read : Result (Y × Place) Refusal) → IsErrAnd r (λ x. x ≡ e) → Fails e read → ReadsValue names left view poly read r
+value_failed names left view poly r e read h f = let p = err_from_is_err_and r h in rw (p.1, p.2) (record { gives = f; shorter = tt; valid = tt })
 
 -- a result of the ring's calls is a value
 pub value_made : (p n k : ℕ) (f : Polynomial) → f.n ≡ k → k ≡ n → IsCanonical p f.n f.terms → IsValue p n f

@@ -1,19 +1,14 @@
 -- A script read part by part is the script that is read.
-use Rattle.std.proofs.Common.{◌≡◌, ℕ, suc, true, false, Bool, List, [], Result, Ok, Err, refl, sym, ◌∙◌}
-use Rattle.std.specs.Prelude.{codes, if◌then◌else◌}
+use Rattle.std.proofs.Common.{◌≡◌, ℕ, suc, List, [], Result, Ok, Err, refl, sym, ◌∙◌}
 use Rattle.script_grammar.specs.declared.refusal.Refusal.{Refusal}
-use Rattle.script_grammar.specs.declared.refusal.ReadKind.TheVariants.{MissingNoether}
-use Rattle.script_grammar.specs.declared.refusal.What.TheVariants as whats
 use Rattle.script_grammar.specs.declared.script.Script.{Script}
 use Rattle.script_grammar.specs.Tokens.{Place, next}
-use Rattle.script_grammar.specs.Words.{is_the_word}
-use Rattle.script_grammar.specs.Trees.{Ring, Monomial, Tree}
-use Rattle.script_grammar.specs.Steps.{◌>>=◌, refused, wanted}
-use Rattle.script_grammar.specs.Statements.{remarks_at, ring_at, noether_at, degree_of, letters_of}
+use Rattle.script_grammar.specs.Trees.{Tree}
+use Rattle.script_grammar.specs.Steps.{◌>>=◌}
+use Rattle.script_grammar.specs.Statements.{remarks_at, degree_of, letters_of}
 use Rattle.script_grammar.specs.Script.{ring_part, noether_part, statements_at, tree_at, script_of}
 use Rattle.script_grammar.specs.Meaning.{meaning}
-use Rattle.ring_reader.specs.Gives.{meant}
-use Rattle.ring_reader.specs.RingView.{RingValue, ring_value}
+use Rattle.ring_reader.specs.RingView.{ring_value}
 use Rattle.ring_reader.specs.Parts.{script_parts, no_names}
 use Rattle.ring_reader.specs.Answers.{asked_by}
 

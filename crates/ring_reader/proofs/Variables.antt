@@ -11,7 +11,6 @@ use Rattle.script_grammar.specs.declared.refusal.Refusal.{Refusal}
 use Rattle.sparse_poly.specs.Letters.{AreLetters}
 use Rattle.script_grammar.specs.Tokens.{is_letter, Place, next}
 use Rattle.script_grammar.specs.Words.{has_letter, is_the_mark}
-use Rattle.script_grammar.specs.Trees.{listed}
 use Rattle.script_grammar.specs.declared.refusal.What.TheVariants as whats
 use Rattle.script_grammar.specs.declared.refusal.ReadKind.TheVariants.{Expected}
 use Rattle.script_grammar.specs.Steps.{◌>>=◌, wanted, kind_at}

@@ -1,6 +1,7 @@
 pub mod Sound
 pub mod NamesView
 pub mod Gives
+pub mod ReadsValue
 pub mod Constant
 pub mod RingView
 pub mod Capped

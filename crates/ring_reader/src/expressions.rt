@@ -5,9 +5,10 @@ ghost use Rattle.prime_field.specs.Decimal.{AreDigits};
 ghost use Rattle.script_tokens.specs.PlaceView.{place_of};
 ghost use Rattle.script_grammar.specs.Expressions.{fraction_at, word_operand_at, operand_at, power_at, term_at, first_at, sum_at, inner_at, expression_at};
 ghost use Rattle.script_grammar.specs.Meaning.{power_value, term_value, sum_value};
-ghost use Rattle.ring_reader.specs.Gives.{Gives, meant, operand_meaning};
+ghost use Rattle.ring_reader.specs.Gives.{meant, operand_meaning};
 ghost use Rattle.ring_reader.specs.NamesView.{declarations_of, values_of};
-ghost use Rattle.ring_reader.specs.Sound.{IsSound, IsValue};
+ghost use Rattle.ring_reader.specs.ReadsValue.{ReadsValue};
+ghost use Rattle.ring_reader.specs.Sound.{IsSound};
 
 use crate::lookup::find;
 use crate::names::Names;
@@ -34,10 +35,7 @@ fn fraction<'a>(
 ) -> Result<((Poly, bool), Place<'a>), Stop>
     requires sound { IsSound names.now }
     requires digits { AreDigits digits.now }
-    ensures gives { Gives (λ x. ((x.0.0.terms, x.0.1), place_of x.1)) result
-        (meant (operand_meaning (declarations_of names.now) (values_of names.now)) (fraction_at (declarations_of names.now) digits.now (place_of here.entry))) }
-    ensures shorter { IfOk result (λ x. x.1.left ≤ here.entry.left) }
-    ensures valid { IfOk result (λ x. IsValue names.now.field (length names.now.letters) x.0.0) }
+    ensures { ReadsValue names.now here.entry.left (λ o. (o.0.terms, o.1)) (λ o. o.0) (meant (operand_meaning (declarations_of names.now) (values_of names.now)) (fraction_at (declarations_of names.now) digits.now (place_of here.entry))) result }
 {
     let field = &names.field;
     if !is_mark(here, b'/') {
@@ -63,10 +61,7 @@ fn word_operand<'a>(
     word: &[u8],
 ) -> Result<((Poly, bool), Place<'a>), Stop>
     requires sound { IsSound names.now }
-    ensures gives { Gives (λ x. ((x.0.0.terms, x.0.1), place_of x.1)) result
-        (meant (operand_meaning (declarations_of names.now) (values_of names.now)) (word_operand_at (declarations_of names.now) word.now (place_of here.entry))) }
-    ensures shorter { IfOk result (λ x. x.1.left ≤ here.entry.left - 1) }
-    ensures valid { IfOk result (λ x. IsValue names.now.field (length names.now.letters) x.0.0) }
+    ensures { ReadsValue names.now (here.entry.left - 1) (λ o. (o.0.terms, o.1)) (λ o. o.0) (meant (operand_meaning (declarations_of names.now) (values_of names.now)) (word_operand_at (declarations_of names.now) word.now (place_of here.entry))) result }
 {
     if is_keyword(word) {
         return Err(Stop::Refused(refused(here, ReadKind::UnknownName)));
@@ -99,10 +94,7 @@ fn operand<'a>(
     here: Place<'a>,
 ) -> Result<((Poly, bool), Place<'a>), Stop>
     requires sound { IsSound names.now }
-    ensures gives { let n = declarations_of names.now in Gives (λ x. ((x.0.0.terms, x.0.1), place_of x.1)) result
-        (meant (operand_meaning n (values_of names.now)) (operand_at (inner_at deep n) n (place_of here.entry))) }
-    ensures shorter { IfOk result (λ x. x.1.left ≤ here.entry.left - 1) }
-    ensures valid { IfOk result (λ x. IsValue names.now.field (length names.now.letters) x.0.0) }
+    ensures { let n = declarations_of names.now in ReadsValue names.now (here.entry.left - 1) (λ o. (o.0.terms, o.1)) (λ o. o.0) (meant (operand_meaning n (values_of names.now)) (operand_at (inner_at deep n) n (place_of here.entry))) result }
 {
     match here.token {
         Token::Word(word) => word_operand(alloc, names, here, word),
@@ -124,10 +116,7 @@ fn inner<'a>(
     here: Place<'a>,
 ) -> Result<(Poly, Place<'a>), Stop>
     requires sound { IsSound names.now }
-    ensures gives { let n = declarations_of names.now in Gives (λ x. (x.0.terms, place_of x.1)) result
-        (meant (sum_value (values_of names.now)) (inner_at deep n (place_of here.entry))) }
-    ensures shorter { IfOk result (λ x. x.1.left ≤ here.entry.left - 1) }
-    ensures valid { IfOk result (λ x. IsValue names.now.field (length names.now.letters) x.0) }
+    ensures { let n = declarations_of names.now in ReadsValue names.now (here.entry.left - 1) (λ f. f.terms) (λ f. f) (meant (sum_value (values_of names.now)) (inner_at deep n (place_of here.entry))) result }
 {
     if deep == 0 {
         return Err(Stop::Refused(refused(here, ReadKind::TooDeep)));
@@ -147,10 +136,7 @@ fn power<'a>(
     here: Place<'a>,
 ) -> Result<(Poly, Place<'a>), Stop>
     requires sound { IsSound names.now }
-    ensures gives { let n = declarations_of names.now in Gives (λ x. (x.0.terms, place_of x.1)) result
-        (meant (power_value (values_of names.now)) (power_at (inner_at deep n) n (place_of here.entry))) }
-    ensures shorter { IfOk result (λ x. x.1.left ≤ here.entry.left - 1) }
-    ensures valid { IfOk result (λ x. IsValue names.now.field (length names.now.letters) x.0) }
+    ensures { let n = declarations_of names.now in ReadsValue names.now (here.entry.left - 1) (λ f. f.terms) (λ f. f) (meant (power_value (values_of names.now)) (power_at (inner_at deep n) n (place_of here.entry))) result }
 {
     let ((value, takes), after) = operand(alloc, names, deep, here)?;
     if takes && is_mark(after, b'^') {
@@ -171,10 +157,7 @@ fn term<'a>(
     here: Place<'a>,
 ) -> Result<(Poly, Place<'a>), Stop>
     requires sound { IsSound names.now }
-    ensures gives { let n = declarations_of names.now in Gives (λ x. (x.0.terms, place_of x.1)) result
-        (meant (term_value (values_of names.now)) (term_at (inner_at deep n) n (place_of here.entry))) }
-    ensures shorter { IfOk result (λ x. x.1.left ≤ here.entry.left - 1) }
-    ensures valid { IfOk result (λ x. IsValue names.now.field (length names.now.letters) x.0) }
+    ensures { let n = declarations_of names.now in ReadsValue names.now (here.entry.left - 1) (λ f. f.terms) (λ f. f) (meant (term_value (values_of names.now)) (term_at (inner_at deep n) n (place_of here.entry))) result }
 {
     let (mut value, mut after) = power(alloc, names, deep, here)?;
     while is_mark(after, b'*') {
@@ -195,10 +178,7 @@ fn first<'a>(
     here: Place<'a>,
 ) -> Result<(Poly, Place<'a>), Stop>
     requires sound { IsSound names.now }
-    ensures gives { let n = declarations_of names.now in Gives (λ x. (x.0.terms, place_of x.1)) result
-        (meant (sum_value (values_of names.now)) (first_at (inner_at deep n) n (place_of here.entry))) }
-    ensures shorter { IfOk result (λ x. x.1.left ≤ here.entry.left - 1) }
-    ensures valid { IfOk result (λ x. IsValue names.now.field (length names.now.letters) x.0) }
+    ensures { let n = declarations_of names.now in ReadsValue names.now (here.entry.left - 1) (λ f. f.terms) (λ f. f) (meant (sum_value (values_of names.now)) (first_at (inner_at deep n) n (place_of here.entry))) result }
 {
     if is_mark(here, b'+') {
         return term(alloc, names, deep, behind(here));
@@ -220,10 +200,7 @@ fn sum<'a>(
     here: Place<'a>,
 ) -> Result<(Poly, Place<'a>), Stop>
     requires sound { IsSound names.now }
-    ensures gives { let n = declarations_of names.now in Gives (λ x. (x.0.terms, place_of x.1)) result
-        (meant (sum_value (values_of names.now)) (sum_at (inner_at deep n) n (place_of here.entry))) }
-    ensures shorter { IfOk result (λ x. x.1.left ≤ here.entry.left - 1) }
-    ensures valid { IfOk result (λ x. IsValue names.now.field (length names.now.letters) x.0) }
+    ensures { let n = declarations_of names.now in ReadsValue names.now (here.entry.left - 1) (λ f. f.terms) (λ f. f) (meant (sum_value (values_of names.now)) (sum_at (inner_at deep n) n (place_of here.entry))) result }
 {
     let (mut value, mut after) = first(alloc, names, deep, here)?;
     loop {
@@ -249,10 +226,7 @@ pub(crate) fn expression<'a>(
     here: Place<'a>,
 ) -> Result<(Poly, Place<'a>), Stop>
     requires sound { IsSound names.now }
-    ensures gives { let n = declarations_of names.now in Gives (λ x. (x.0.terms, place_of x.1)) result
-        (meant (sum_value (values_of names.now)) (expression_at n (place_of here.entry))) }
-    ensures shorter { IfOk result (λ x. x.1.left ≤ here.entry.left - 1) }
-    ensures valid { IfOk result (λ x. IsValue names.now.field (length names.now.letters) x.0) }
+    ensures { let n = declarations_of names.now in ReadsValue names.now (here.entry.left - 1) (λ f. f.terms) (λ f. f) (meant (sum_value (values_of names.now)) (expression_at n (place_of here.entry))) result }
 {
     sum(alloc, names, MAX_DEPTH, here)
 }

@@ -52,6 +52,7 @@ impl Declared for NamedIdeal {
 pub(crate) fn find<'a, T: Declared>(all: &'a [T], word: &[u8]) -> Option<&'a T>
     ensures value { IfSome result (λ f. (other : T.Value) → value_in (map T.seen all.now) other word.now ≡ (T.seen f.now).value) }
     ensures named { IfSome result (λ f. is_one_of (names_in T.seen all.now) word.now ≡ true) }
+    ensures name { IfSome result (λ f. (T.seen f.now).name ≡ word.now) }
     ensures there { IfSome result (λ f. Contains all.now f.now) }
     ensures absent { IfNone result ((other : T.Value) → value_in (map T.seen all.now) other word.now ≡ other) }
     ensures unnamed { IfNone result (is_one_of (names_in T.seen all.now) word.now ≡ false) }
@@ -101,40 +102,41 @@ pub(crate) fn new_name<'a>(names: &Names, here: Place<'a>) -> Result<(&'a [u8], 
     Ok((word, behind(here)))
 }
 
-/// The name of one of them.
+/// What is declared with the name that stands here.
 #[tactic(auto, unfolding(script_grammar::specs::Statements::name_among))]
-pub(crate) fn known<'a, T: Declared>(
-    all: &[T],
+pub(crate) fn known<'n, 'a, T: Declared>(
+    all: &'n [T],
     here: Place<'a>,
-) -> Result<(&'a [u8], Place<'a>), Refusal>
-    ensures reads { Reads (λ x. (x.0.now, place_of x.1)) result (name_among (names_in T.seen all.now) (place_of here.entry)) }
-    ensures known { IfOk result (λ x. is_one_of (names_in T.seen all.now) x.0.now ≡ true) }
-    ensures ascii { IfOk result (λ x. IsAscii x.0.now) }
+) -> Result<(&'n T, Place<'a>), Refusal>
+    ensures reads { Reads (λ x. ((T.seen x.0.now).name, place_of x.1)) result (name_among (names_in T.seen all.now) (place_of here.entry)) }
+    ensures value { IfOk result (λ x. (other : T.Value) → value_in (map T.seen all.now) other (T.seen x.0.now).name ≡ (T.seen x.0.now).value) }
+    ensures there { IfOk result (λ x. Contains all.now x.0.now) }
+    ensures ascii { IfOk result (λ x. IsAscii (T.seen x.0.now).name) }
     ensures shorter { IfOk result (λ x. x.1.left < here.entry.left) }
 {
     let Some(word) = name(here) else {
         return Err(refused(here, ReadKind::Expected(What::Argument)));
     };
-    if has(all, word) {
-        Ok((word, behind(here)))
-    } else {
-        Err(refused(here, ReadKind::UnknownName))
+    match find(all, word) {
+        Some(item) => Ok((item, behind(here))),
+        None => Err(refused(here, ReadKind::UnknownName)),
     }
 }
 
-/// The name of one of them in parentheses.
+/// What is declared with the name in parentheses.
 #[tactic(auto, unfolding(script_grammar::specs::Statements::argument_at))]
-pub(crate) fn argument<'a, T: Declared>(
-    all: &[T],
+pub(crate) fn argument<'n, 'a, T: Declared>(
+    all: &'n [T],
     here: Place<'a>,
-) -> Result<(&'a [u8], Place<'a>), Refusal>
-    ensures reads { Reads (λ x. (x.0.now, place_of x.1)) result (argument_at (names_in T.seen all.now) (place_of here.entry)) }
-    ensures known { IfOk result (λ x. is_one_of (names_in T.seen all.now) x.0.now ≡ true) }
-    ensures ascii { IfOk result (λ x. IsAscii x.0.now) }
+) -> Result<(&'n T, Place<'a>), Refusal>
+    ensures reads { Reads (λ x. ((T.seen x.0.now).name, place_of x.1)) result (argument_at (names_in T.seen all.now) (place_of here.entry)) }
+    ensures value { IfOk result (λ x. (other : T.Value) → value_in (map T.seen all.now) other (T.seen x.0.now).name ≡ (T.seen x.0.now).value) }
+    ensures there { IfOk result (λ x. Contains all.now x.0.now) }
+    ensures ascii { IfOk result (λ x. IsAscii (T.seen x.0.now).name) }
     ensures shorter { IfOk result (λ x. x.1.left < here.entry.left) }
 {
     let after = mark(here, b'(', What::Open)?;
-    let (word, after) = known(all, after)?;
+    let (item, after) = known(all, after)?;
     let after = mark(after, b')', What::Close)?;
-    Ok((word, after))
+    Ok((item, after))
 }

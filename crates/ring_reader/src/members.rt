@@ -12,7 +12,7 @@ ghost use Rattle.ring_reader.specs.NamesView.{declarations_of, values_of};
 ghost use Rattle.ring_reader.specs.Sound.{IsSound, IsValue, IsGenerator};
 
 use crate::expressions::expression;
-use crate::lookup::{find, has, known};
+use crate::lookup::{has, known};
 use crate::names::Names;
 use crate::stop::Stop;
 use script_grammar::{ReadKind, Refusal, What};
@@ -105,14 +105,11 @@ fn member<'a>(
 {
     if is_word(here, b"jacob") {
         let after = mark(behind(here), b'(', What::Open)?;
-        let (word, after) = known(names.polys, after)?;
+        let (f, after) = known(names.polys, after)?;
         if gens.len() + names.letters.len() > MAX_GENERATORS {
             return Err(Stop::Refused(refused(here, ReadKind::TooManyGenerators)));
         }
         let after = mark(after, b')', What::Close)?;
-        let Some(f) = find(names.polys, word) else {
-            unreachable!()
-        };
         push_jacobian(alloc, names, gens, &f.value)?;
         return Ok(after);
     }

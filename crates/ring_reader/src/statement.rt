@@ -1,10 +1,9 @@
 //! One statement.
 
-ghost use Rattle.std.specs.Prelude.{◌≡◌, ◌<◌, ◌≤◌, ◌+◌, ◌-◌, true, false, [], length, map, All, IfOk};
+ghost use Rattle.std.specs.Prelude.{◌≡◌, ◌<◌, ◌≤◌, ◌+◌, ◌-◌, true, false, [], length, map, All, Contains, IfOk};
 ghost use Rattle.std.specs.Str.{IsAscii};
 ghost use Rattle.script_tokens.specs.PlaceView.{place_of};
 ghost use Rattle.script_tokens.specs.TokenView.{token_of};
-ghost use Rattle.script_grammar.specs.Words.{is_one_of};
 ghost use Rattle.script_grammar.specs.Statements.{is_on_poly, poly_at, ideal_at, command_at};
 ghost use Rattle.script_grammar.specs.Script.{begins_later, command_of, statement_at};
 ghost use Rattle.script_grammar.specs.Meaning.{ideal_subject, function_subject, value_in};
@@ -17,7 +16,7 @@ ghost use Rattle.ring_reader.specs.declared.effect.Effect.TheVariants.{Command a
 
 use crate::effect::Effect;
 use crate::expressions::expression;
-use crate::lookup::{argument, find, known, new_name};
+use crate::lookup::{argument, known, new_name};
 use crate::members::members;
 use crate::names::{NamedIdeal, NamedPoly, Names};
 use crate::remark::{is_remark, remark};
@@ -50,16 +49,13 @@ fn poly<'a>(alloc: Global, names: &Names, here: Place<'a>) -> Result<(Effect, Pl
 }
 
 /// The generators of a declared ideal, once more.
-fn same_generators(alloc: Global, names: &Names, name: &[u8]) -> Result<Polys, AllocError>
+fn same_generators(alloc: Global, names: &Names, ideal: &NamedIdeal) -> Result<Polys, AllocError>
     requires sound { IsSound names.now }
-    requires known { is_one_of (declarations_of names.now).ideals name.now ≡ true }
-    ensures value { IfOk result (λ g. map (λ f. f.terms) g ≡ value_in (values_of names.now).ideals [] name.now) }
+    requires there { Contains names.now.ideals.now ideal.now }
+    ensures same { IfOk result (λ g. g ≡ ideal.now.gens) }
     ensures valid { IfOk result (All (IsGenerator names.now.field (length names.now.letters) names.now.d)) }
     ensures few { IfOk result (λ g. length g ≤ 64) }
 {
-    let Some(ideal) = find(names.ideals, name) else {
-        unreachable!()
-    };
     ideal.gens.copy(alloc)
 }
 
@@ -93,18 +89,19 @@ fn ideal_command(
     alloc: Global,
     names: &Names,
     word: Word,
-    name: &[u8],
+    ideal: &NamedIdeal,
 ) -> Result<Effect, AllocError>
     requires sound { IsSound names.now }
-    requires known { is_one_of (declarations_of names.now).ideals name.now ≡ true }
-    requires ascii { IsAscii name.now }
+    requires there { Contains names.now.ideals.now ideal.now }
+    requires value { value_in (values_of names.now).ideals [] ideal.now.name ≡ map (λ f. f.terms) ideal.now.gens }
+    requires ascii { IsAscii ideal.now.name }
     requires word { is_on_poly word ≡ false }
-    ensures command { IfOk result (λ e. e ≡ Commanded (record { word = word; name = name.now; subject = ideal_subject (values_of names.now) name.now })) }
+    ensures command { IfOk result (λ e. e ≡ Commanded (record { word = word; name = ideal.now.name; subject = ideal_subject (values_of names.now) ideal.now.name })) }
     ensures sound { IfOk result (IsSoundEffect names.now.field (length names.now.letters) names.now.d) }
 {
-    let gens = same_generators(alloc, names, name)?;
+    let gens = same_generators(alloc, names, ideal)?;
     let problem = Problem::new(names.field, names.letters.len() as u32, names.d, gens);
-    let name = Name::new(alloc, name)?;
+    let name = Name::new(alloc, ideal.name.bytes())?;
     Ok(Effect::Command(Command {
         word,
         name,
@@ -117,24 +114,22 @@ fn function_command(
     alloc: Global,
     names: &Names,
     word: Word,
-    name: &[u8],
+    f: &NamedPoly,
 ) -> Result<Effect, AllocError>
     requires sound { IsSound names.now }
-    requires known { is_one_of (declarations_of names.now).polys name.now ≡ true }
-    requires ascii { IsAscii name.now }
+    requires there { Contains names.now.polys.now f.now }
+    requires value { value_in (values_of names.now).polys [] f.now.name ≡ f.now.value.terms }
+    requires ascii { IsAscii f.now.name }
     requires word { is_on_poly word ≡ true }
-    ensures command { IfOk result (λ e. e ≡ Commanded (record { word = word; name = name.now; subject = function_subject (values_of names.now) name.now })) }
+    ensures command { IfOk result (λ e. e ≡ Commanded (record { word = word; name = f.now.name; subject = function_subject (values_of names.now) f.now.name })) }
     ensures sound { IfOk result (IsSoundEffect names.now.field (length names.now.letters) names.now.d) }
 {
-    let Some(f) = find(names.polys, name) else {
-        unreachable!()
-    };
-    let f = f.value.copy(alloc)?;
-    let name = Name::new(alloc, name)?;
+    let value = f.value.copy(alloc)?;
+    let name = Name::new(alloc, f.name.bytes())?;
     Ok(Effect::Command(Command {
         word,
         name,
-        subject: Subject::Function(f),
+        subject: Subject::Function(value),
     }))
 }
 
@@ -160,19 +155,19 @@ fn command<'a>(
     ensures shorter { IfOk result (λ x. x.1.left ≤ here.entry.left - 1) }
 {
     if asks_of_poly(word) {
-        let (name, after) = argument(names.polys, here)?;
+        let (f, after) = argument(names.polys, here)?;
         let after = mark(after, b';', What::Semicolon)?;
-        return Ok((function_command(alloc, names, word, name)?, after));
+        return Ok((function_command(alloc, names, word, f)?, after));
     }
     let opened = mark(here, b'(', What::Open)?;
-    let (name, after) = if is_word(opened, b"std") {
+    let (ideal, after) = if is_word(opened, b"std") {
         argument(names.ideals, behind(opened))?
     } else {
         known(names.ideals, opened)?
     };
     let after = mark(after, b')', What::Close)?;
     let after = mark(after, b';', What::Semicolon)?;
-    Ok((ideal_command(alloc, names, word, name)?, after))
+    Ok((ideal_command(alloc, names, word, ideal)?, after))
 }
 
 /// The word of a command.

@@ -3,26 +3,29 @@ use Rattle.sparse_poly.specs.Poly.{Polynomial}
 use Rattle.script_tokens.specs.PlaceView.{place_of}
 use Rattle.script_grammar.specs.Expressions.{inner_at}
 use Rattle.ring_reader.specs.NamesView.{declarations_of, values_of}
-use Rattle.ring_reader.proofs.Handed.{gives_failed, value_made}
+use Rattle.ring_reader.proofs.Handed.{value_failed, value_made}
 use Rattle.ring_reader.proofs.Operands.{inner_reads, inner_refused}
 use Rattle.ring_reader.proofs.Loops.{term_goes, term_fails_on, term_ends, sum_adds_on, sum_subtracts_on, sum_fails_on, sum_ends}
 use Rattle.ring_reader.proofs.expressions.+expression.Goals as goal
 
-pub inner-returns-in_err-after-clause-gives : goal.inner-returns-in_err-after-clause-gives
-inner-returns-in_err-after-clause-gives t c =
-    gives_failed _ _ _ _ c.from_residual-in_err-after.ensures.1
+pub inner-returns-in_err-after : goal.inner-returns-in_err-after
+inner-returns-in_err-after t c =
+    value_failed _ _ _ _ _ _ _ c.from_residual-in_err-after.ensures.1
     (inner_refused (declarations_of c.args.names.now) (values_of c.args.names.now) c.args.deep (place_of c.args.here) (place_of c.behind.result) (place_of c.in_ok-value.after) _ _
     (omega (arith, c.if-deep-eq0.false)) c.behind.ensures.next c.in_ok-value.ensures.gives c.in_err-after.ensures.reads)
 
-pub inner-returns-clause-gives : goal.inner-returns-clause-gives
-inner-returns-clause-gives t c =
-    inner_reads (declarations_of c.args.names.now) (values_of c.args.names.now) c.args.deep (place_of c.args.here) (place_of c.behind.result) (place_of c.in_ok-value.after) _ _
-    (omega (arith, c.if-deep-eq0.false)) c.behind.ensures.next c.in_ok-value.ensures.gives c.in_ok-after.ensures.reads
+pub inner-returns : goal.inner-returns
+inner-returns t c = record {
+  gives = inner_reads (declarations_of c.args.names.now) (values_of c.args.names.now) c.args.deep (place_of c.args.here) (place_of c.behind.result) (place_of c.in_ok-value.after) _ _
+      (omega (arith, c.if-deep-eq0.false)) c.behind.ensures.next c.in_ok-value.ensures.gives c.in_ok-after.ensures.reads;
+  shorter = omega (arith, c.behind.ensures.shorter, c.in_ok-value.ensures.shorter, c.in_ok-after.ensures.shorter);
+  valid = c.in_ok-value.ensures.valid;
+}
 
-pub term-returns-in_err-factor-clause-gives : goal.term-returns-in_err-factor-clause-gives
-term-returns-in_err-factor-clause-gives t c =
+pub term-returns-in_err-factor : goal.term-returns-in_err-factor
+term-returns-in_err-factor t c =
     let n = declarations_of c.args.names.now in
-    gives_failed _ _ _ _ c.from_residual-in_err-factor.ensures.1
+    value_failed _ _ _ _ _ _ _ c.from_residual-in_err-factor.ensures.1
     (term_fails_on (inner_at c.args.deep n) n (values_of c.args.names.now) _ c.loop-alloc.value.terms (place_of c.loop-alloc.after) (place_of c.behind.result) _
     (sym c.is_mark.ensures.which ∙ c.loop-alloc-test.true) (c.is_mark.ensures.some c.loop-alloc-test.true) c.behind.ensures.next c.in_err-factor.ensures.gives c.loop-alloc.invariant.so_far)
 
@@ -35,16 +38,17 @@ term-loop-alloc-preserved t c = let n = declarations_of c.args.names.now in reco
   valid = value_made _ _ _ c.in_ok-value-2.value (ap (λ (f : Polynomial). f.n) c.in_ok-value-2.ensures.value) c.loop-alloc.invariant.valid.variables c.in_ok-value-2.ensures.canonical;
 }
 
-pub term-returns-clause-gives : goal.term-returns-clause-gives
-term-returns-clause-gives t c =
-    let n = declarations_of c.args.names.now in
-    term_ends (inner_at c.args.deep n) n (values_of c.args.names.now) _ c.loop-alloc.value.terms (place_of c.loop-alloc.after)
-    (sym c.is_mark.ensures.which ∙ c.loop-alloc-test.false) c.loop-alloc.invariant.so_far
+pub term-returns : goal.term-returns
+term-returns t c = let n = declarations_of c.args.names.now in record {
+  gives = term_ends (inner_at c.args.deep n) n (values_of c.args.names.now) _ c.loop-alloc.value.terms (place_of c.loop-alloc.after) (sym c.is_mark.ensures.which ∙ c.loop-alloc-test.false) c.loop-alloc.invariant.so_far;
+  shorter = c.loop-alloc.invariant.shorter;
+  valid = c.loop-alloc.invariant.valid;
+}
 
-pub sum-returns-in_err-other-clause-gives : goal.sum-returns-in_err-other-clause-gives
-sum-returns-in_err-other-clause-gives t c =
+pub sum-returns-in_err-other : goal.sum-returns-in_err-other
+sum-returns-in_err-other t c =
     let n = declarations_of c.args.names.now in
-    gives_failed _ _ _ _ c.from_residual-in_err-other.ensures.1
+    value_failed _ _ _ _ _ _ _ c.from_residual-in_err-other.ensures.1
     (sum_fails_on (inner_at c.args.deep n) n (values_of c.args.names.now) _ c.loop-after.value.terms (place_of c.loop-after.after) (place_of c.behind.result) _
     (inl (sym c.is_mark.ensures.which ∙ c.if-is_mark.true)) (c.is_mark.ensures.some c.if-is_mark.true) c.behind.ensures.next c.in_err-other.ensures.gives c.loop-after.invariant.so_far)
 
@@ -57,10 +61,10 @@ sum-loop-after-preserved-then-is_mark t c = let n = declarations_of c.args.names
   valid = value_made _ _ _ c.in_ok-value-2.value (ap (λ (f : Polynomial). f.n) c.in_ok-value-2.ensures.value) c.loop-after.invariant.valid.variables c.in_ok-value-2.ensures.canonical;
 }
 
-pub sum-returns-in_err-other-2-clause-gives : goal.sum-returns-in_err-other-2-clause-gives
-sum-returns-in_err-other-2-clause-gives t c =
+pub sum-returns-in_err-other-2 : goal.sum-returns-in_err-other-2
+sum-returns-in_err-other-2 t c =
     let n = declarations_of c.args.names.now in
-    gives_failed _ _ _ _ c.from_residual-in_err-other-2.ensures.1
+    value_failed _ _ _ _ _ _ _ c.from_residual-in_err-other-2.ensures.1
     (sum_fails_on (inner_at c.args.deep n) n (values_of c.args.names.now) _ c.loop-after.value.terms (place_of c.loop-after.after) (place_of c.behind-then-is_mark-2.result) _
     (inr (sym c.is_mark.ensures.which ∙ c.if-is_mark.false, sym c.is_mark-else-is_mark.ensures.which ∙ c.if-is_mark-2.true)) (c.is_mark-else-is_mark.ensures.some c.if-is_mark-2.true) c.behind-then-is_mark-2.ensures.next c.in_err-other-2.ensures.gives c.loop-after.invariant.so_far)
 
@@ -73,8 +77,10 @@ sum-loop-after-preserved t c = let n = declarations_of c.args.names.now in recor
   valid = value_made _ _ _ c.in_ok-value-3.value (ap (λ (f : Polynomial). f.n) c.in_ok-value-3.ensures.value) c.loop-after.invariant.valid.variables c.in_ok-value-3.ensures.canonical;
 }
 
-pub sum-returns-else-is_mark-2-clause-gives : goal.sum-returns-else-is_mark-2-clause-gives
-sum-returns-else-is_mark-2-clause-gives t c =
-    let n = declarations_of c.args.names.now in
-    sum_ends (inner_at c.args.deep n) n (values_of c.args.names.now) _ c.loop-after.value.terms (place_of c.loop-after.after)
-    (sym c.is_mark.ensures.which ∙ c.if-is_mark.false) (sym c.is_mark-else-is_mark.ensures.which ∙ c.if-is_mark-2.false) c.loop-after.invariant.so_far
+pub sum-returns-else-is_mark-2 : goal.sum-returns-else-is_mark-2
+sum-returns-else-is_mark-2 t c = let n = declarations_of c.args.names.now in record {
+  gives = sum_ends (inner_at c.args.deep n) n (values_of c.args.names.now) _ c.loop-after.value.terms (place_of c.loop-after.after)
+      (sym c.is_mark.ensures.which ∙ c.if-is_mark.false) (sym c.is_mark-else-is_mark.ensures.which ∙ c.if-is_mark-2.false) c.loop-after.invariant.so_far;
+  shorter = c.loop-after.invariant.shorter;
+  valid = c.loop-after.invariant.valid;
+}

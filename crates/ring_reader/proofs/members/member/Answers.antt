@@ -13,18 +13,18 @@ returns-then-is_word-clause-gives c =
     let names = c.args.names.now in
     let v = values_of names in
     ap (meant (λ m. c.args.gens.now.items ++ member_gens v m))
-    (jacob_reads (declarations_of names) (length c.args.gens.now.items) (place_of c.args.here) (place_of c.behind.result) (place_of c.in_ok-after.after) (place_of c.in_ok-word.after) (place_of c.in_ok-after-2.after) c.in_ok-word.word.now
-    (sym c.is_word.ensures.which ∙ c.if-is_word.true) c.behind.ensures.next c.in_ok-after.ensures.reads c.in_ok-word.ensures.reads
+    (jacob_reads (declarations_of names) (length c.args.gens.now.items) (place_of c.args.here) (place_of c.behind.result) (place_of c.in_ok-after.after) (place_of c.in_ok-f.after) (place_of c.in_ok-after-2.after) c.in_ok-f.f.now.name
+    (sym c.is_word.ensures.which ∙ c.if-is_word.true) c.behind.ensures.next c.in_ok-after.ensures.reads c.in_ok-f.ensures.reads
     (omega (arith, c.if-len-gt-MAX_GENERATORS.false, c.len.ensures, c.len-then-is_word.ensures.value)) c.in_ok-after-2.ensures.reads)
     ∙ ap (λ (l : List Polynomial). Ok (l, place_of c.in_ok-after-2.after))
-    (ap (λ (l : List Polynomial). c.args.gens.now.items ++ l) (sym (jacob_gens v c.in_ok-word.word.now c.in-Some.f.now.value.terms (c.in-Some.ensures.value [])))
+    (ap (λ (l : List Polynomial). c.args.gens.now.items ++ l) (sym (jacob_gens v c.in_ok-f.f.now.name c.in_ok-f.f.now.value.terms (c.in_ok-f.ensures.value [])))
     ∙ sym c.in_ok-push_jacobian.ensures.gens)
 
 pub returns-then-is_word-clause-few : goal.returns-then-is_word-clause-few
 returns-then-is_word-clause-few c =
     let names = c.args.names.now in
-    let count = ap length c.in_ok-push_jacobian.ensures.gens ∙ length-append c.args.gens.now.items (jacobian_gens (values_of names) c.in-Some.f.now.value.terms) in
-    omega (arith, count, length_jacobian (values_of names) c.in-Some.f.now.value.terms, c.if-len-gt-MAX_GENERATORS.false, c.len.ensures, c.len-then-is_word.ensures.value)
+    let count = ap length c.in_ok-push_jacobian.ensures.gens ∙ length-append c.args.gens.now.items (jacobian_gens (values_of names) c.in_ok-f.f.now.value.terms) in
+    omega (arith, count, length_jacobian (values_of names) c.in_ok-f.f.now.value.terms, c.if-len-gt-MAX_GENERATORS.false, c.len.ensures, c.len-then-is_word.ensures.value)
 
 pub returns-then-len-eq-MAX_GENERATORS-clause-gives : goal.returns-then-len-eq-MAX_GENERATORS-clause-gives
 returns-then-len-eq-MAX_GENERATORS-clause-gives c =
