@@ -69,3 +69,19 @@ pub fn poly(alloc: Global, field: &Field, terms: &[Written]) -> Result<Poly, Fai
     }
     Ok(Poly::from_terms(alloc, field, 2, all)?)
 }
+
+/// Whether the polynomial has these terms, in this order.
+pub fn has_terms(f: &Poly, expected: &[Written]) -> bool {
+    f.n() == 2
+        && f.len() == expected.len()
+        && (0..f.len()).all(|i| is_term(&f.get(i), &expected[i]))
+}
+
+/// Whether the term has these exponents and this coefficient.
+fn is_term(term: &PolyTerm, expected: &Written) -> bool {
+    let mono = &term.mono;
+    mono.n() == 2
+        && mono.exp(0) == expected.0[0]
+        && mono.exp(1) == expected.0[1]
+        && term.coef == expected.1
+}

@@ -1,23 +1,8 @@
 //! Each call on polynomials in x and y that were worked out by hand.
 
-use crate::build::{Written, field, poly};
-use sparse_poly::{Letters, Poly, PolyTerm, Polys, Problem};
+use crate::build::{Written, field, has_terms, poly};
+use sparse_poly::{Letters, Poly, Polys, Problem};
 use std::test::Fail;
-
-/// Whether the polynomial has these terms, in this order.
-fn has_terms(f: &Poly, expected: &[Written]) -> bool {
-    f.n() == 2
-        && f.len() == expected.len()
-        && (0..f.len()).all(|i| is_term(&f.get(i), &expected[i]))
-}
-
-fn is_term(term: &PolyTerm, expected: &Written) -> bool {
-    let mono = &term.mono;
-    mono.n() == 2
-        && mono.exp(0) == expected.0[0]
-        && mono.exp(1) == expected.0[1]
-        && term.coef == expected.1
-}
 
 #[test]
 fn sums(rt: HostRuntime) -> Result<(), Fail> {

@@ -3,7 +3,7 @@
 ghost use Rattle.std.specs.Prelude.{◌≡◌, IfOk};
 ghost use Rattle.trunc_row.specs.Rows.{IsRow};
 
-use crate::build::{Written, field, poly};
+use crate::build::{Written, field, has_terms, poly};
 use mono_rank::RankTable;
 use prime_field::Field;
 use std::alloc::Global;
@@ -52,6 +52,8 @@ fn polynomials_are_cut(rt: HostRuntime) -> Result<(), Fail> {
     let degrees = [f.top_degree(&table), g.top_degree(&table)];
     assert!(rt; [leads, degrees] == [[Some(1), Some(2)], [Some(2), Some(4)]]);
     assert!(rt; f.len() == 15 && has(&f, &[(1, 3), (5, 5)]));
+    let back = f.poly(rt.alloc(), &table, &field)?;
+    assert!(rt; has_terms(&back, &[([1, 0], 3), ([0, 2], 5)]));
     Ok(())
 }
 

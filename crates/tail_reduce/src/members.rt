@@ -6,7 +6,6 @@ ghost use Rattle.sparse_poly.specs.Shape.{shape_of};
 ghost use Rattle.sparse_poly.specs.Poly.{in_variables};
 ghost use Rattle.sparse_poly.specs.Ideal.{IsProblem};
 ghost use Rattle.trunc_row.specs.Rows.{IsRow, IsZeroRow};
-ghost use Rattle.rank_algebra.specs.Vector.{Vector};
 ghost use Rattle.rank_algebra.specs.Division.{corner_of};
 ghost use Rattle.mora_law.specs.Ring.{ranks_of_problem};
 ghost use Rattle.mora_law.specs.Entries.{basis_of, terms_of, poly_of_terms};
@@ -18,8 +17,9 @@ use crate::divisors::Divisor;
 use crate::rows::{divide, write};
 use entry_code::Entries;
 use mono_rank::RankTable;
-use sparse_poly::{Poly, PolyTerm, Problem};
+use sparse_poly::{Poly, Problem};
 use std::alloc::{AllocError, Global};
+use trunc_row::poly_of;
 
 /// The member that the entry at a place makes: its lead, and what division by all entries leaves of its other terms.
 /// It takes a row of its own, and reads what it shares with other members.
@@ -43,7 +43,7 @@ pub(crate) fn member(
 {
     let mut row = vec![in alloc; 0; table.count() as usize]?;
     tidy(problem, table, entries, firsts, corner, place, &mut row);
-    polynomial(alloc, problem, table, &row)
+    poly_of(alloc, table, problem.field(), &row)
 }
 
 /// Writes the lead of the entry at a place, and what division leaves of its other terms, into a row of 0.
@@ -73,29 +73,4 @@ fn tidy(
     row[lead] = field.sub(row[lead], 1);
     divide(problem, table, entries, firsts, corner, row);
     row[lead] = field.add(row[lead], 1);
-}
-
-/// The polynomial of a row.
-fn polynomial(
-    alloc: Global,
-    problem: &Problem,
-    table: &RankTable,
-    row: &[u32],
-) -> Result<Poly, AllocError>
-    requires table { table.now ≡ shape_of problem.now }
-    requires row { IsRow problem.now.p (count (shape_of problem.now)) row.now }
-    ensures { IfOk result (λ f. (v : Vector) → HasVector problem.now v row.now
-        → f ≡ in_variables problem.now.n (poly_of_terms problem.now (terms_of (ranks_of_problem problem.now) v))) }
-{
-    let mut terms = Vec::new(alloc);
-    for rank in 0..table.count() {
-        let coef = row[rank as usize];
-        if coef != 0 {
-            terms.push(PolyTerm {
-                mono: table.mono(rank),
-                coef,
-            })?;
-        }
-    }
-    Poly::from_terms(alloc, problem.field(), problem.n(), terms)
 }

@@ -6,3 +6,4 @@ pub mod Store
 pub mod TermRows
 mod Writing
 pub mod Cuts
+pub mod RowPolynomials

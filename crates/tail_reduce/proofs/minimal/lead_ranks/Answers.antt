@@ -1,7 +1,6 @@
-use Rattle.std.proofs.Common.{◌≡◌, ◌<◌, All, sym, subst}
+use Rattle.std.proofs.Common.{◌<◌, All, sym, subst}
 use Rattle.local_order.specs.Shape.{count}
 use Rattle.sparse_poly.specs.Shape.{shape_of}
-use Rattle.sparse_poly.specs.Ideal.{IsProblem}
 use Rattle.tail_reduce.proofs.Legals.{legal_terms, leads_small}
 use Rattle.tail_reduce.proofs.minimal.lead_ranks.Goals as goal
 
