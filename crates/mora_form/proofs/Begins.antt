@@ -23,7 +23,8 @@ use Rattle.entry_code.specs.declared.item.Item.TheVariants.{Pair}
 use Rattle.ecart.specs.declared.summary.Summary.{Summary}
 use Rattle.ecart.specs.Choice.{summary_at}
 use Rattle.mora_form.specs.Reducers.{row_at}
-use Rattle.mora_form.specs.State.{ring, vector_of_row}
+use Rattle.mora_form.specs.State.{ring}
+use Rattle.trunc_row.specs.Vectors.{vector_of_row}
 use Rattle.mora_form.specs.Begin.{basis_in}
 use Rattle.mora_law.specs.Start.{start_of}
 use Rattle.mora_form.proofs.Vectors.{ring_of_problem, ring_p, ring_count, ring_cofactor, subtract_vector}

@@ -23,7 +23,8 @@ use Rattle.ecart.specs.declared.choice.Choice.{Choice}
 use Rattle.ecart.specs.declared.choice.Choice.TheVariants.{Entry, Kept}
 use Rattle.ecart.specs.Choice.{no_summary, summary_at, ecart_of, IsSummary, IsChoice, IsNoChoice}
 use Rattle.mora_form.specs.Reducers.{row_at, AreRows, IsSummaryOf, AreSummarized}
-use Rattle.mora_form.specs.State.{ring, vector_of_row, entry_vector}
+use Rattle.mora_form.specs.State.{ring, entry_vector}
+use Rattle.trunc_row.specs.Vectors.{vector_of_row}
 use Rattle.mora_form.specs.Chosen.{IsThere, chosen_summary, chosen_row, with_kept}
 use Rattle.mora_form.specs.Reduction.{IsReduced, IsStepOn}
 use Rattle.mora_form.proofs.Vectors.{ring_quotient, lead_of_row}

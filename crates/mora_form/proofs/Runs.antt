@@ -1,6 +1,6 @@
 -- Runs and the entries that they know: the run over rows is the run over the entries.
 -- It stays so when an entry is learnt, since the readings so far knew the earlier ones alone.
-use Rattle.std.proofs.Common.{◌≡◌, ℕ, zero, suc, ◌+◌, ◌-◌, ◌*◌, ◌%◌, ◌<◌, ◌≤◌, ◌⊎◌, List, [], ◌∷◌, ◌++◌, length, take, All, Bool, true, false, cond, eqb, Option, Some, None, slice_get, refl, ap, ap₂, sym, ◌∙◌, inl, inr, subst, arith}
+use Rattle.std.proofs.Common.{◌≡◌, ℕ, zero, suc, ◌+◌, ◌-◌, ◌*◌, ◌%◌, ◌<◌, ◌≤◌, ◌⊎◌, List, [], ◌∷◌, ◌++◌, length, take, All, Bool, true, false, cond, eqb, Option, Some, None, slice_get, refl, ap, sym, ◌∙◌, inl, inr, subst, arith}
 use Rattle.std.proofs.lemmas.Bool.{cases_lt, eq-eqb, ne_eqb}
 use Rattle.std.proofs.lemmas.List.{get_or_default, get_or_push, length-append, get_or_append_left}
 use Rattle.std.proofs.lemmas.List.Elements.{All-take}
@@ -36,7 +36,8 @@ use Rattle.mora_law.proofs.Alike.{same_lead}
 use Rattle.ecart.specs.declared.summary.Summary.{Summary}
 use Rattle.ecart.specs.Choice.{summary_at}
 use Rattle.mora_form.specs.Reducers.{row_at, AreSummarized}
-use Rattle.mora_form.specs.State.{State, ring, ring_of, vector_of_row, entry_vector, run_in, Knows, IsOver, HasRun, AreMonicTerms, draft_in, draft_of}
+use Rattle.mora_form.specs.State.{State, ring, ring_of, entry_vector, run_in, Knows, IsOver, HasRun, AreMonicTerms, draft_in, draft_of}
+use Rattle.trunc_row.specs.Vectors.{vector_of_row}
 use Rattle.mora_form.specs.Begin.{basis_in}
 use Rattle.mora_form.proofs.Vectors.{ring_of_problem, ring_p, ring_count, ring_inverse, ring_laws}
 

@@ -1,6 +1,6 @@
 -- A step and the record of a run: what it keeps, and that there is room.
 -- Each step that reduces raises the lead, so a run has at most as many as there are monomials.
-use Rattle.std.proofs.Common.{◌≡◌, ℕ, zero, suc, ◌+◌, ◌<◌, ◌≤◌, ◌⊎◌, List, [], ◌∷◌, ◌++◌, length, take, map, get_or, All, Bool, true, false, cond, ltb, Option, Some, None, refl, ap, ap₂, sym, ◌∙◌, inl, inr, subst, arith}
+use Rattle.std.proofs.Common.{◌≡◌, ℕ, zero, suc, ◌+◌, ◌<◌, ◌≤◌, ◌⊎◌, List, [], ◌∷◌, ◌++◌, length, take, map, get_or, All, Bool, true, false, cond, ltb, Option, Some, None, refl, ap, sym, ◌∙◌, inl, inr, subst, arith}
 use Rattle.std.proofs.Math.Path.{fun_ext}
 use Rattle.std.proofs.lemmas.Bool.{cases_lt, cases_eq, lt-ltb, le-ltb}
 use Rattle.std.proofs.lemmas.List.{get_or_default, length-append, take-append-le, take_all, get_or_past}
@@ -26,7 +26,8 @@ use Rattle.mora_law.specs.Legal.{IsItemOf}
 use Rattle.mora_law.specs.Alike.{AllAlike, RunAlike}
 use Rattle.mora_law.proofs.Alike.{step_alike}
 use Rattle.mora_law.proofs.Readings.{steps_more, stuck_dropped}
-use Rattle.mora_form.specs.State.{State, ring, ring_of, vector_of_row, entry_vector, run_in, without_last, is_stuck, recorded, Knows, HasRun}
+use Rattle.mora_form.specs.State.{State, ring, ring_of, entry_vector, run_in, without_last, is_stuck, recorded, Knows, HasRun}
+use Rattle.trunc_row.specs.Vectors.{vector_of_row}
 use Rattle.mora_form.specs.Held.{HasGone}
 use Rattle.mora_form.specs.Reduction.{IsAdvance, goes_on, steps_after}
 use Rattle.mora_form.proofs.Readings.{without_last-append}

@@ -17,7 +17,8 @@ use Rattle.rank_algebra.proofs.Searches.{greatest_low, greatest_high}
 use Rattle.ecart.specs.declared.summary.Summary.{Summary}
 use Rattle.ecart.specs.Choice.{ecart_of}
 use Rattle.mora_form.specs.Reducers.{IsSummaryOf}
-use Rattle.mora_form.specs.State.{ring, vector_of_row}
+use Rattle.mora_form.specs.State.{ring}
+use Rattle.trunc_row.specs.Vectors.{vector_of_row}
 use Rattle.mora_form.proofs.Vectors.{ring_p, ring_count, ring_degree, lead_of_row}
 
 -- a row that begins has a top degree

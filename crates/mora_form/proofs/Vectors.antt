@@ -1,6 +1,6 @@
 -- Rows as vectors over the ring by rank: leads, and the subtraction of multiples.
 -- The ring stays folded: what it consists of is told once, field by field, and everything else follows by its laws.
-use Rattle.std.proofs.Common.{◌≡◌, ℕ, zero, suc, ◌+◌, ◌-◌, ◌*◌, ◌%◌, ◌<◌, ◌≤◌, List, [], length, get_or, Option, Some, None, refl, ap, sym, ◌∙◌, subst, arith}
+use Rattle.std.proofs.Common.{◌≡◌, ℕ, ◌+◌, ◌-◌, ◌*◌, ◌%◌, ◌<◌, ◌≤◌, List, [], length, get_or, Option, Some, None, refl, ap, sym, ◌∙◌, subst, arith}
 use Rattle.std.proofs.Math.Nat
 use Rattle.prime_field.specs.Prime.{InTable}
 use Rattle.prime_field.specs.Inverse.{inverse}
@@ -19,6 +19,7 @@ use Rattle.mono_rank.proofs.Numbers.{quotient_of_ranks}
 use Rattle.sparse_poly.specs.Ideal.{Problem}
 use Rattle.trunc_row.specs.Rows.{IsRow, IsZeroRow, BeginsAt, SubtractsMultiple}
 use Rattle.trunc_row.proofs.Residues.{row_small}
+use Rattle.trunc_row.proofs.Vectors.{minus_same}
 use Rattle.rank_algebra.specs.Vector.{Same, nothing, coef_at, shift, less, Agree}
 use Rattle.mora_law.specs.Ring.{numbering_of, ranks_of_problem}
 use Rattle.rank_algebra.specs.Ideal.{IsLead}
@@ -28,7 +29,8 @@ use Rattle.mora_law.proofs.Ring.{ranks_are}
 use Rattle.mora_law.specs.Lead.{lead}
 use Rattle.mora_law.proofs.Choice.{lead_some, lead_is}
 use Rattle.mora_law.proofs.Terms.{same_mod}
-use Rattle.mora_form.specs.State.{ring, vector_of_row}
+use Rattle.mora_form.specs.State.{ring}
+use Rattle.trunc_row.specs.Vectors.{vector_of_row}
 use Rattle.mora_form.proofs.Quotients.{quotient_fits}
 
 -- ---- the ring
@@ -75,18 +77,6 @@ ring_laws p T t some = ranks_are (record { p = p; n = T.variables; d = T.degree;
 -- numbers below p that are one residue are equal
 pub residue_same : (p a b : ℕ) → a < p → b < p → Same p a b → a ≡ b
 residue_same p a b l m h = sym (Nat.mod-eq_of_lt l) ∙ h.eq ∙ Nat.mod-eq_of_lt m
-
--- p - c is the factor p - 1 times c
-minus : (p c : ℕ) → c < p → Same p (p - c) ((p - 1) * c)
-minus p zero l = record { eq = ap (λ x. x % p) (let e : p - 0 ≡ p = omega arith in e) ∙ Nat.mod_self p ∙ sym (Nat.zero-mod p) ∙ ap (λ x. x % p) (let e : 0 ≡ (p - 1) * 0 = omega arith in e) }
-minus p (suc c) l = record { eq = sym (ap (λ x. x % p) (go p l) ∙ Nat.add-mul-mod_self_right (p - suc c) c p) }
-  where
-    go : (p : ℕ) → suc c < p → (p - 1) * suc c ≡ p - suc c + c * p
-    go zero l = absurd (omega (arith, l))
-    go (suc q) l = ap (λ x. x * suc c) (let e : suc q - 1 ≡ q = omega arith in e) ∙ more q (suc q - suc c) (omega (arith, l))
-      where
-        more : (q m : ℕ) → m + c ≡ q → q * suc c ≡ m + c * suc q
-        more q m e = omega (arith, ap (λ x. x * suc c) (sym e), ap (λ x. c * x) (sym e))
 
 -- ---- leads
 module _ (p : ℕ) (T : Shape) (t : InTable p) (some : 1 ≤ T.variables) where
@@ -153,7 +143,7 @@ module _ (p : ℕ) (T : Shape) (t : InTable p) (some : 1 ≤ T.variables) where
       at k l (Some q) e =
           same_trans (same_of p _ _ (h.multiples (mono_of_rank T a) quotient q k hx hq hk))
           (same_trans (same_mod p (get_or r k 0 + (p - c) * get_or g q 0))
-          (same_add (same_refl p (get_or r k 0)) (same_mul (minus p c lc) (same_of p _ _ (sym (ap (coef_at (vector_of_row g)) (ring_quotient p T k a ∙ e)))))))
+          (same_add (same_refl p (get_or r k 0)) (same_mul (minus_same p c lc) (same_of p _ _ (sym (ap (coef_at (vector_of_row g)) (ring_quotient p T k a ∙ e)))))))
         where
           over : IsOver (numbering T) k a q
           over = over_is (numbering T) k a q e

@@ -1,5 +1,5 @@
 -- What contracts see of a run and the entries that it knows.
-use Rattle.std.specs.Prelude.{◌≡◌, ℕ, ◌<◌, ◌≤◌, List, [], ◌∷◌, length, take, map, Bool, true, false, Option, Some, None, cond, slice_index, All}
+use Rattle.std.specs.Prelude.{◌≡◌, ℕ, ◌<◌, ◌≤◌, List, [], ◌∷◌, length, take, map, Bool, true, false, Option, Some, None, cond, All}
 use Rattle.local_order.specs.Shape.{Shape}
 use Rattle.sparse_poly.specs.Shape.{shape_of}
 use Rattle.rank_algebra.specs.Ranks.{Ranks}
@@ -10,6 +10,7 @@ use Rattle.entry_code.specs.declared.term.Term.{Term}
 use Rattle.entry_code.specs.Entry.{Entry, entry_at}
 use Rattle.rank_algebra.specs.Vector.{Vector, Agree}
 use Rattle.mora_law.specs.Ring.{ranks_of_problem}
+use Rattle.trunc_row.specs.Vectors.{vector_of_row}
 use Rattle.trunc_row.specs.Rows.{BeginsAt, HasRisingRanks}
 use Rattle.mora_law.specs.declared.step_end.StepEnd.{StepEnd}
 use Rattle.mora_law.specs.declared.step_end.StepEnd.TheVariants.{Zero, Reduced, Stuck}
@@ -41,10 +42,6 @@ ring p T = ranks_of_problem (record { p = p; n = T.variables; d = T.degree; gens
 -- the ring of a state
 abbrev pub ring_of : State → Ranks
 ring_of s = ring s.p s.shape
-
--- a row as a vector
-abbrev pub vector_of_row : List ℕ → Vector
-vector_of_row r = λ k. slice_index r k
 
 -- the entries that are known as vectors
 abbrev pub entry_vector : List (List ℕ) → ℕ → Vector

@@ -9,7 +9,7 @@ ghost use Rattle.mora_law.specs.Ring.{ranks_of_problem, generators_of};
 ghost use Rattle.mora_law.specs.Legal.{IsItemOf};
 ghost use Rattle.mora_law.specs.Start.{start_of};
 ghost use Rattle.mora_form.specs.Reducers.{AreRows, AreSummarized};
-ghost use Rattle.mora_form.specs.State.{vector_of_row};
+ghost use Rattle.trunc_row.specs.Vectors.{vector_of_row};
 ghost use Rattle.mora_form.specs.Begin.{basis_in};
 
 use crate::products::cofactor_rank;

@@ -12,7 +12,8 @@ ghost use Rattle.mora_law.specs.Alike.{RunAlike};
 ghost use Rattle.mora_law.specs.Step.{step};
 ghost use Rattle.mora_law.specs.Start.{start};
 ghost use Rattle.mora_law.specs.Legal.{IsItemOf};
-ghost use Rattle.mora_form.specs.State.{ring_of, vector_of_row, entry_vector, run_in, Knows, IsOver, HasRun, recorded, AreMonicTerms, draft_in, draft_of};
+ghost use Rattle.mora_form.specs.State.{ring_of, entry_vector, run_in, Knows, IsOver, HasRun, recorded, AreMonicTerms, draft_in, draft_of};
+ghost use Rattle.trunc_row.specs.Vectors.{vector_of_row};
 
 use crate::begin::begin;
 use crate::draft::draft_when_stuck;

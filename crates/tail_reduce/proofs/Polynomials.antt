@@ -10,16 +10,13 @@ use Rattle.local_order.specs.Shape.{count}
 use Rattle.sparse_poly.specs.Shape.{shape_of}
 use Rattle.sparse_poly.specs.Ideal.{Problem}
 use Rattle.trunc_row.specs.Rows.{IsRow}
+use Rattle.trunc_row.specs.Vectors.{vector_of_row}
 use Rattle.trunc_row.specs.Polynomials.{terms_from, poly_of_row}
 use Rattle.rank_algebra.specs.Vector.{Vector, Agree}
 use Rattle.mora_law.specs.Ring.{numbering_of, ranks_of_problem}
 use Rattle.mora_law.specs.Entries.{term_at, terms_of, poly_term, poly_of_terms}
 use Rattle.mora_law.proofs.Terms.{terms_same}
 use Rattle.tail_reduce.specs.Rows.{HasVector}
-
--- the residues of a row
-abbrev pub vector_of_row : List ℕ → Vector
-vector_of_row r = λ k. get_or r k 0
 
 module _ (P : Problem) where
   -- where a vector has 0 there is no term

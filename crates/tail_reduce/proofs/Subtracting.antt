@@ -1,7 +1,6 @@
 -- The multiple of an entry is subtracted term by term: each product that has a rank changes the residue there.
 -- Ranks rise from term to term, and so do those of the products: behind one that is beyond the degree all are.
 use Rattle.std.proofs.Common.{◌≡◌, ℕ, zero, suc, ◌+◌, ◌-◌, ◌*◌, ◌%◌, ◌<◌, ◌≤◌, ◌⊎◌, List, length, take, get_or, set, Option, Some, None, refl, sym, ◌∙◌, ap, subst, arith, inl, inr, get_or-set_other, get_or-set_same}
-use Rattle.std.proofs.Math.Nat
 use Rattle.std.specs.List.{slice_get}
 use Rattle.std.proofs.lemmas.Bool.{cases_eq, cases_lt}
 use Rattle.std.proofs.lemmas.List.{take_all}
@@ -12,29 +11,18 @@ use Rattle.rank_algebra.specs.Ranks.{IsRanks}
 use Rattle.sparse_poly.specs.Ideal.{Problem}
 use Rattle.trunc_row.specs.Rows.{IsRow}
 use Rattle.trunc_row.proofs.Residues.{row_set}
+use Rattle.trunc_row.proofs.Vectors.{minus_same}
 use Rattle.entry_code.specs.declared.term.Term.{Term}
 use Rattle.rank_algebra.specs.Vector.{Same, Vector, coef_at, shift, less}
 use Rattle.mora_law.specs.Ring.{ranks_of_problem, IsAdmissible}
-use Rattle.rank_algebra.proofs.Residues.{same_refl, same_of, same_sym, same_trans, same_add, same_mul, same_multiple, same_less}
+use Rattle.rank_algebra.proofs.Residues.{same_refl, same_of, same_trans, same_add, same_mul}
 use Rattle.mora_law.proofs.Ring.{ranks_are}
+use Rattle.mora_law.proofs.Terms.{same_mod}
 use Rattle.rank_algebra.proofs.First.{shift_at}
 use Rattle.mora_law.specs.Entries.{vector_of_terms}
 use Rattle.tail_reduce.specs.Rows.{HasVector, AreTerms}
 use Rattle.tail_reduce.proofs.Ranked.{ranks_n, product_cases}
 use Rattle.tail_reduce.proofs.Terms.{term_later, term_own, none_before, term_other}
-
--- ---- residues
--- a residue is the same as the number
-same_mod : (p a : ℕ) → Same p (a % p) a
-same_mod p a = record { eq = Nat.mod-mod a p }
-
--- p less c is p - 1 times c
-minus_same : (p c : ℕ) → c < p → Same p (p - c) ((p - 1) * c)
-minus_same p c l =
-    same_trans (same_of p (p - c) (p - c + 0) (omega arith))
-    (same_trans (same_add (same_refl p (p - c)) (same_sym (same_less p c (omega arith))))
-    (same_trans (same_of p (p - c + (c + (p - 1) * c)) (p * 1 + (p - 1) * c) (omega arith))
-    (same_trans (same_add (same_multiple p 1) (same_refl p ((p - 1) * c))) (same_of p (0 + (p - 1) * c) ((p - 1) * c) (omega arith)))))
 
 -- ---- one term more
 -- the first i terms of the multiple are subtracted

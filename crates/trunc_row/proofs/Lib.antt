@@ -7,3 +7,4 @@ pub mod TermRows
 mod Writing
 pub mod Cuts
 pub mod RowPolynomials
+pub mod Vectors

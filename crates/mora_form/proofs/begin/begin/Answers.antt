@@ -8,7 +8,7 @@ use Rattle.trunc_row.specs.Rows.{IsRow}
 use Rattle.rank_algebra.specs.Vector.{Agree}
 use Rattle.mora_law.specs.Ring.{ranks_of_problem, generators_of}
 use Rattle.mora_law.specs.Start.{start_of}
-use Rattle.mora_form.specs.State.{vector_of_row}
+use Rattle.trunc_row.specs.Vectors.{vector_of_row}
 use Rattle.mora_form.specs.Begin.{basis_in}
 use Rattle.mora_form.proofs.Begins.{generator_is, generator_row, pair_row, pair_is, got_row, zeros}
 use Rattle.mora_form.proofs.begin.begin.Goals as goal
