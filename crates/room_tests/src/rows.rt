@@ -12,7 +12,7 @@ use trunc_row::Row;
 
 /// The row of these terms.
 fn row(alloc: Global, table: &RankTable, field: &Field, terms: &[Written]) -> Result<Row, Fail>
-    requires table { table.now ≡ record { n = 2; d = 4 } }
+    requires table { table.now ≡ record { variables = 2; degree = 4 } }
     requires field { field.now ≡ 7 }
     ensures { IfOk result (IsRow 7 15) }
 {
