@@ -22,6 +22,7 @@ pub struct Trial {
 }
 
 impl Model for Trial {
+    ghost use Rattle.std.specs.Prelude.{◌≡◌};
     ghost use Rattle.mora_form.specs.State.{State, IsOver};
 
     ghost Value = { State };
