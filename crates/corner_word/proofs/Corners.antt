@@ -12,20 +12,36 @@ use Rattle.mono_rank.specs.Rank.{HasRank}
 use Rattle.mono_rank.specs.Cover.{IsMultiple, Covers, IsCorner}
 use Rattle.mono_rank.proofs.Walk.{walk}
 use Rattle.mono_rank.proofs.Ranks.{rank_small, rank_reached}
-use Rattle.corner_word.specs.Marks.{Marked, mark_at, IsCoverOf, IsMarkedFrom, IsLeastMarked, IsKept}
+use Rattle.corner_word.specs.Marks.{Covered, mark_at, marked_from, IsCoverOf, IsMarkedFrom, IsLeastMarked, IsKept}
+use Rattle.corner_word.proofs.Ranks.{marked_is}
+
+-- ---- marks and multiples
+-- the marks are those of the multiples of these leads
+pub record AreMarksOf (T : Shape) (leads : List ℕ) (marks : List Bool) : Type 0 where
+  pub each : (m : List ℕ) (r : ℕ) → HasRank T m r → IsTrue (mark_at marks r) ↔ IsMultiple T leads m
+
+-- then the cover that is shown is that of these leads
+pub cover_from : (T : Shape) (leads : List ℕ) (marks : List Bool) → AreMarksOf T leads marks → IsCoverOf leads (record { shape = T; multiples = marked_from 0 marks })
+cover_from T leads marks A = record { each = λ m r h. let w = marked_is marks r in (λ c. (A.each m r h).0 (w.0 c), λ M. w.1 ((A.each m r h).1 M)) }
+
+-- and the other way round
+pub cover_to : (T : Shape) (leads : List ℕ) (marks : List Bool) (c : Covered) → record { shape = T; multiples = marked_from 0 marks } ≡ c → IsCoverOf leads c → AreMarksOf T leads marks
+cover_to T leads marks c e C =
+    let D : IsCoverOf leads (record { shape = T; multiples = marked_from 0 marks }) = subst (IsCoverOf leads) (sym e) C in
+    record { each = λ m r h. let w = marked_is marks r in (λ t. (D.each m r h).0 (w.1 t), λ M. w.0 ((D.each m r h).1 M)) }
 
 -- ---- the corner
 -- the first rank that has only marks from it on is the corner
-pub corner_is : (T : Shape) (marks : List Bool) (w : ℕ) (c : Marked) (leads : List ℕ) → record { shape = T; marks = marks } ≡ c → IsKept T marks w →
+pub corner_is : (T : Shape) (marks : List Bool) (w : ℕ) (c : Covered) (leads : List ℕ) → record { shape = T; multiples = marked_from 0 marks } ≡ c → IsKept T marks w →
     IsCoverOf leads c → IsCorner c.shape leads w
-corner_is T marks w c leads e K C = subst (λ (x : Marked). IsCorner x.shape leads w) e (record {
+corner_is T marks w c leads e K C = subst (λ (x : Covered). IsCorner x.shape leads w) e (record {
   covers = λ m r l h. (D.each m r h).0 (K.corner.marked.from r l (omega (arith, K.all, rank_small T m r h)));
   low = omega (arith, K.all, K.corner.marked.low);
   least = λ v V. go v V (cases_lt v w);
 })
   where
-    D : IsCoverOf leads (record { shape = T; marks = marks })
-    D = subst (IsCoverOf leads) (sym e) C
+    D : AreMarksOf T leads marks
+    D = cover_to T leads marks c e C
 
     none_below : (v k : ℕ) → Covers T leads v → v ≤ k → suc k ≡ w → ⊥
     none_below v k V l f =
@@ -58,8 +74,8 @@ kept_first T w marks some e f =
       };
     }
 
--- no marks are the cover of no leads
-pub cover_first : (T : Shape) (w : ℕ) (marks : List Bool) → w ≡ count T → marks ≡ replicate w false → IsCoverOf [] (record { shape = T; marks = marks })
+-- no marks are those of no leads
+pub cover_first : (T : Shape) (w : ℕ) (marks : List Bool) → w ≡ count T → marks ≡ replicate w false → AreMarksOf T [] marks
 cover_first T w marks e f = record { each = λ m r h. (λ t. absurd (no m r h t), λ M. absurd (none M.2)) }
   where
     no : (m : List ℕ) (r : ℕ) → HasRank T m r → IsTrue (mark_at marks r) → ⊥
@@ -77,15 +93,15 @@ abbrev pub MarksMultiples : Shape → List Bool → List Bool → ℕ → Type 0
 MarksMultiples T s t lead = (k m : List ℕ) (r : ℕ) → HasRank T k lead → HasRank T m r → IsTrue (mark_at t r) ↔ (IsTrue (mark_at s r) ⊎ Divides k m)
 
 -- what was marked over a table of the same monomials
-pub marked_over : (T N : Shape) (s u t : List Bool) (lead : ℕ) (c : Marked) → record { shape = T; marks = s } ≡ c → N ≡ c.shape → u ≡ s →
+pub marked_over : (T N : Shape) (s u t : List Bool) (lead : ℕ) (c : Covered) → record { shape = T; multiples = marked_from 0 s } ≡ c → N ≡ c.shape → u ≡ s →
     MarksMultiples N u t lead → MarksMultiples T s t lead
 marked_over T N s u t lead c e f h M =
-    let same : N ≡ T = f ∙ sym (ap (λ (x : Marked). x.shape) e) in
+    let same : N ≡ T = f ∙ sym (ap (λ (x : Covered). x.shape) e) in
     subst (λ v. MarksMultiples T v t lead) h (subst (λ x. MarksMultiples x u t lead) same M)
 
 -- the lead is one of the monomials
-pub lead_low : (T : Shape) (s : List Bool) (lead : ℕ) (c : Marked) → record { shape = T; marks = s } ≡ c → lead < count c.shape → lead < count T
-lead_low T s lead c e l = subst (λ (x : Marked). lead < count x.shape) (sym e) l
+pub lead_low : (T : Shape) (s : List Bool) (lead : ℕ) (c : Covered) → record { shape = T; multiples = marked_from 0 s } ≡ c → lead < count c.shape → lead < count T
+lead_low T s lead c e l = subst (λ (x : Covered). lead < count x.shape) (sym e) l
 
 -- marks that are written over as many
 pub written_over : (l : ℕ) (t s : List Bool) → length t ≡ l → take l (t ++ drop (length t) s) ≡ t
@@ -105,9 +121,9 @@ marked_still T s t lead w K l e more = record {
 pub kept_more : (T : Shape) (s t v : List Bool) (w u : ℕ) → IsKept T s w → length t ≡ length s → v ≡ t → IsLeastMarked v u → IsKept T v u
 kept_more T s t v w u K e f F = record { some = K.some; all = ap length f ∙ e ∙ K.all; corner = F }
 
--- the marks of the multiples of one more lead make the cover of one more
+-- the marks of the multiples of one more lead make those of one more
 pub cover_more : (T : Shape) (s t : List Bool) (lead : ℕ) (leads : List ℕ) → 1 ≤ T.variables → lead < count T →
-    MarksMultiples T s t lead → IsCoverOf leads (record { shape = T; marks = s }) → IsCoverOf (leads ++ lead ∷ []) (record { shape = T; marks = t })
+    MarksMultiples T s t lead → AreMarksOf T leads s → AreMarksOf T (leads ++ lead ∷ []) t
 cover_more T s t lead leads some l more C = record { each = λ m r h. (λ u. there m r h ((more (walk T.variables lead) m r has h).0 u), λ M. back m r h M) }
   where
     has : HasRank T (walk T.variables lead) lead

@@ -2,7 +2,7 @@
 
 ghost use Rattle.std.specs.Prelude.{◌≡◌, ℕ, List, [], ◌∷◌, ◌++◌, ◌<◌, IfOk};
 ghost use Rattle.local_order.specs.Shape.{count};
-ghost use Rattle.mono_rank.specs.Cover.{IsCorner};
+ghost use Rattle.mono_rank.specs.Cover.{IsCorner, corner_of_leads};
 ghost use Rattle.corner_word.specs.Marks.{IsCoverOf};
 
 use crate::marks::{lowered, mark_multiples};
@@ -11,8 +11,8 @@ use std::alloc::{AllocError, Global};
 use std::marker::Model;
 
 /// The ranks of the multiples of the leads that were added, and the highest corner.
-/// A contract sees the monomials that it is about, and the marks of the ranks. The marks tell of no order
-/// of the leads, so a list of leads is one that the marks are the cover of, `IsCoverOf`.
+/// A contract sees the monomials that it is about, and the ranks of the multiples of the leads. These tell of no order
+/// of the leads, so a list of leads is one that it is the cover of, `IsCoverOf`.
 #[derive(Drop)]
 pub struct Cover {
     n: u32,
@@ -22,11 +22,11 @@ pub struct Cover {
 }
 
 impl Model for Cover {
-    ghost use Rattle.corner_word.specs.Marks.{Marked, IsKept};
+    ghost use Rattle.corner_word.specs.Marks.{Covered, marked_from, IsKept};
 
-    ghost Value = { Marked };
+    ghost Value = { Covered };
 
-    ghost view = { λ c. record { shape = record { variables = c.n; degree = c.d }; marks = c.marks.items } };
+    ghost view = { λ c. record { shape = record { variables = c.n; degree = c.d }; multiples = marked_from 0 c.marks.items } };
 
     ghost invariant = { λ c. IsKept (record { variables = c.n; degree = c.d }) c.marks.items c.corner };
 }
@@ -59,7 +59,8 @@ impl Cover {
 
     /// The highest corner: the least rank from which on each monomial is a multiple of a lead. It is kept, and only read here.
     pub fn corner(&self) -> u32
-        ensures { (leads : List ℕ) → IsCoverOf leads self.now → IsCorner self.now.shape leads result }
+        ensures number { (leads : List ℕ) → IsCoverOf leads self.now → result ≡ corner_of_leads self.now.shape leads }
+        ensures least { (leads : List ℕ) → IsCoverOf leads self.now → IsCorner self.now.shape leads result }
     {
         self.corner
     }

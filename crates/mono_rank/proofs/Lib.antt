@@ -12,3 +12,4 @@ pub mod Degrees
 pub mod Products
 pub mod Quotients
 pub mod Numbers
+pub mod Corners

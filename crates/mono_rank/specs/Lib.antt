@@ -2,5 +2,5 @@ pub mod Rank
 pub mod Next
 pub mod Stored
 pub mod Table
-pub mod Cover
 pub mod Laws
+pub mod Cover

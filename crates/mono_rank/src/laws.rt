@@ -1,11 +1,12 @@
 //! The laws of ranks. Each is a call that does nothing, and whose contract is the law.
 
-ghost use Rattle.std.specs.Prelude.{◌≡◌, ◌↔◌, ◌+◌, ◌*◌, ◌%◌, ◌<◌, ◌≤◌, ℕ, Bool, List, Some, length, IsTrue};
+ghost use Rattle.std.specs.Prelude.{◌≡◌, ◌↔◌, ◌+◌, ◌*◌, ◌%◌, ◌<◌, ◌≤◌, ℕ, Bool, List, Contains, Some, length, IsTrue};
 ghost use Rattle.local_order.specs.Mono.{degree, mono_times, Divides};
 ghost use Rattle.local_order.specs.Order.{IsAbove};
 ghost use Rattle.local_order.specs.Count.{monomial_count};
 ghost use Rattle.local_order.specs.Shape.{Shape, count};
 ghost use Rattle.mono_rank.specs.Rank.{rank_of, HasRank, fewer, mono_at, ListsMonomials};
+ghost use Rattle.mono_rank.specs.Cover.{IsCorner, corner_of_leads};
 ghost use Rattle.mono_rank.specs.Laws.{IsDegreeOrder, Numbering, IsNumbering, numbering, ranks_of};
 ghost use Rattle.rank_algebra.specs.Ranks.{IsRanks};
 
@@ -62,4 +63,12 @@ pub fn products_are_by_rank()
         → (T.degree < degree (mono_times x y)) ↔ ((ranks_of p inv T.degree (numbering T)).times a b ≡ count T) }
     ensures quotient { (T : Shape) (p : ℕ) (inv : ℕ → ℕ) (x y : List ℕ) (a b : ℕ) → 1 ≤ T.variables → HasRank T x a → HasRank T y b
         → Divides x y ↔ ((s : ℕ) × ((ranks_of p inv T.degree (numbering T)).quotient b a ≡ Some s)) }
+{}
+
+/// The corner of leads as a number is their corner, there is no other, and it never rises as leads are added.
+pub fn leads_have_one_corner()
+    ensures corner { (T : Shape) (leads : List ℕ) → 1 ≤ T.variables → IsCorner T leads (corner_of_leads T leads) }
+    ensures one { (T : Shape) (leads : List ℕ) (v w : ℕ) → IsCorner T leads v → IsCorner T leads w → v ≡ w }
+    ensures never_rises { (T : Shape) (leads more : List ℕ) → 1 ≤ T.variables → ((l : ℕ) → Contains leads l → Contains more l)
+        → corner_of_leads T more ≤ corner_of_leads T leads }
 {}

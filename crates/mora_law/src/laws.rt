@@ -3,7 +3,7 @@
 ghost use Rattle.std.specs.Prelude.{◌≡◌, ◌↔◌, ◌+◌, ◌<◌, ◌≤◌, ℕ, List, [], ◌∷◌, length, map, get_or, Contains, Some, None, take};
 ghost use Rattle.local_order.specs.Mono.{degree, Divides};
 ghost use Rattle.mono_rank.specs.Rank.{fewer};
-ghost use Rattle.mono_rank.specs.Cover.{IsCorner};
+ghost use Rattle.mono_rank.specs.Cover.{IsCorner, corner_of_leads};
 ghost use Rattle.sparse_poly.specs.Poly.{Poly, IsIn, IsCanonical};
 ghost use Rattle.sparse_poly.specs.Ideal.{Problem, IsProblem, IsInIdeal, IsLeadOfIdeal, Fits, IsReducedBasis, IsFirstMissing};
 ghost use Rattle.std.specs.List.{range_with_len};
@@ -131,6 +131,8 @@ pub fn has_entries()
 pub fn corner_of_entries()
     ensures leads { (P : Problem) (entries : List Entry) → IsAdmissible P → AreMonic P entries
         → IsCorner (shape_of P) (map (λ e. lead_rank e.terms) entries) (corner P entries) }
+    ensures number { (P : Problem) (entries : List Entry) → IsAdmissible P → AreMonic P entries
+        → corner P entries ≡ corner_of_leads (shape_of P) (map (λ e. lead_rank e.terms) entries) }
     ensures fits { (P : Problem) (entries : List Entry) → IsAdmissible P → Legal P entries → AllSettled P entries
         → Fits P ↔ (corner P entries ≤ fewer P.n P.d) }
 {}

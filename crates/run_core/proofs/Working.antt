@@ -4,6 +4,7 @@ use Rattle.std.proofs.Common.{◌≡◌, ◌≢◌, ℕ, zero, suc, ◌+◌, ◌
 use Rattle.std.specs.Prelude.{All}
 use Rattle.local_order.specs.Shape.{Shape}
 use Rattle.sparse_poly.specs.Shape.{shape_of}
+use Rattle.mono_rank.proofs.Corners.{one_corner}
 use Rattle.mono_rank.specs.Cover.{IsCorner}
 use Rattle.corner_word.specs.Marks.{IsCoverOf}
 use Rattle.entry_code.specs.declared.reading.Reading.{Reading}
@@ -33,10 +34,6 @@ use Rattle.run_core.specs.State.{count_of}
 use Rattle.run_core.proofs.Room.{hand_room}
 use Rattle.run_core.proofs.Keeps.{keeps_sound}
 use Rattle.run_core.proofs.Plain.{plain_reads}
-
--- leads have one corner
-pub one_corner : (T : Shape) (leads : List ℕ) (v w : ℕ) → IsCorner T leads v → IsCorner T leads w → v ≡ w
-one_corner T leads v w a b = omega (arith, a.least w b.covers, b.least v a.covers)
 
 -- each reading has a corner that is no less than the lowest
 corners_low : (R : Ranks) (B : Basis) (w : ℕ) (ds : List Reading) → HaveCorners R B w ds → All (λ d. w ≤ d.corner) ds

@@ -1,6 +1,7 @@
 use Rattle.std.proofs.Common.{◌≡◌, length, take, drop, ◌++◌, ◌∷◌, [], ap, ◌∙◌, sym, subst}
-use Rattle.corner_word.specs.Marks.{IsMarkedFrom, IsLeastMarked, IsCoverOf}
-use Rattle.corner_word.proofs.Corners.{MarksMultiples, marked_over, lead_low, written_over, kept_more, marked_still, cover_more}
+use Rattle.local_order.specs.Shape.{Shape}
+use Rattle.corner_word.specs.Marks.{IsMarkedFrom, IsLeastMarked}
+use Rattle.corner_word.proofs.Corners.{AreMarksOf, cover_from, cover_to, MarksMultiples, marked_over, lead_low, written_over, kept_more, marked_still, cover_more}
 use Rattle.corner_word.proofs.cover.Cover.add.Goals as goal
 
 -- the marks of the lead's multiples are made in those that were kept
@@ -38,6 +39,7 @@ returns-clause-leads c leads C =
     let same : v ≡ t = written_over I.marks.len t I.marks.items (c.mark_multiples.auto.marks ∙ c.deref_mut.ensures.len) in
     let M : MarksMultiples (record { variables = I.n; degree = I.d }) I.marks.items t c.args.lead =
     marked_over (record { variables = I.n; degree = I.d }) c.args.table.now I.marks.items c.deref_mut.result.now t c.args.lead c.args.self.now c.self.view_is c.requires.shape c.deref_mut.ensures.value c.mark_multiples.ensures in
-    let D : IsCoverOf leads (record { shape = record { variables = I.n; degree = I.d }; marks = I.marks.items }) = subst (IsCoverOf leads) (sym c.self.view_is) C in
-    subst (λ s. IsCoverOf (leads ++ c.args.lead ∷ []) (record { shape = record { variables = I.n; degree = I.d }; marks = s })) (sym same)
-    (cover_more (record { variables = I.n; degree = I.d }) I.marks.items t c.args.lead leads c.self.invariant.some (lead_low (record { variables = I.n; degree = I.d }) I.marks.items c.args.lead c.args.self.now c.self.view_is c.requires.low) M D)
+    let T : Shape = record { variables = I.n; degree = I.d } in
+    let D : AreMarksOf T leads I.marks.items = cover_to T leads I.marks.items c.args.self.now c.self.view_is C in
+    cover_from T (leads ++ c.args.lead ∷ []) v (subst (AreMarksOf T (leads ++ c.args.lead ∷ [])) (sym same)
+    (cover_more (record { variables = I.n; degree = I.d }) I.marks.items t c.args.lead leads c.self.invariant.some (lead_low (record { variables = I.n; degree = I.d }) I.marks.items c.args.lead c.args.self.now c.self.view_is c.requires.low) M D))

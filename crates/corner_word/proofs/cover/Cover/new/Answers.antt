@@ -1,6 +1,6 @@
-use Rattle.std.proofs.Common.{◌≡◌, false, replicate, rules, ap, ◌∙◌, sym, arith}
+use Rattle.std.proofs.Common.{◌≡◌, [], false, replicate, rules, ap, ◌∙◌, sym, arith}
 use Rattle.local_order.specs.Shape.{Shape, count}
-use Rattle.corner_word.proofs.Corners.{kept_first, cover_first}
+use Rattle.corner_word.proofs.Corners.{kept_first, cover_first, cover_from}
 use Rattle.corner_word.proofs.cover.Cover.new.Goals as goal
 
 -- the monomials are those of the table
@@ -22,4 +22,5 @@ returns-clause-shape c = shape_is c
 pub returns-clause-leads : goal.returns-clause-leads
 returns-clause-leads c =
     let none : c.in_ok-vec.field-0.items ≡ replicate c.count-count.result false = search rules in
-    cover_first (record { variables = c.n.result; degree = c.d.result }) c.count-count.result c.in_ok-vec.field-0.items (all c) none
+    let T : Shape = record { variables = c.n.result; degree = c.d.result } in
+    cover_from T [] c.in_ok-vec.field-0.items (cover_first T c.count-count.result c.in_ok-vec.field-0.items (all c) none)

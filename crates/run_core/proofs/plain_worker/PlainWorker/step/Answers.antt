@@ -10,7 +10,7 @@ pub overflow_cast-known : goal.overflow_cast-known
 overflow_cast-known c = omega (arith, known_small c.args.board.now c.args.self.now c.requires.running, c.len-known.ensures, ap length c.entries.ensures)
 
 pub corner-corner-requires-clause-own : goal.corner-corner-requires-clause-own
-corner-corner-requires-clause-own c = own_corner c.args.board.now c.args.self.now c.requires.running c.corner.result c.corner.ensures
+corner-corner-requires-clause-own c = own_corner c.args.board.now c.args.self.now c.requires.running c.corner.result c.corner.ensures.least
 
 pub step-requires-clause-corners : goal.step-requires-clause-corners
 step-requires-clause-corners c = λ k d l. omega (arith, c.corner-corner.ensures.value, lower_corner c.args.board.now c.args.self.now c.requires.running k d l)
