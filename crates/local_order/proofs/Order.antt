@@ -19,7 +19,7 @@ length-mono_times (x ∷ a) [] e = omega arith
 length-mono_times (x ∷ a) (y ∷ b) e = omega (arith, length-mono_times a b (omega arith))
 
 -- lists with the same head and the same tail are the same
-cons_same : (x y : ℕ) (a b : List ℕ) → x ≡ y → a ≡ b → (x ∷ a) ≡ (y ∷ b)
+pub cons_same : (x y : ℕ) (a b : List ℕ) → x ≡ y → a ≡ b → (x ∷ a) ≡ (y ∷ b)
 cons_same x y a b e f = cc
 
 -- the factors may change places

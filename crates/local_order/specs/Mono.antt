@@ -1,5 +1,5 @@
 -- A monomial is the list of its exponents, one for each variable.
-use Rattle.std.specs.Prelude.{◌≡◌, ℕ, ◌+◌, ◌-◌, ◌≤◌, max, List, [], ◌∷◌, length, replicate, All, Bool, true, false, ◌&&◌, ◌||◌, eqb, leb}
+use Rattle.std.specs.Prelude.{◌≡◌, ℕ, ◌+◌, ◌-◌, ◌≤◌, max, List, [], ◌∷◌, length, replicate, All, Bool, true, false, ◌&&◌, ◌||◌, nat_le, ◌==◌}
 
 -- one to eight exponents, each at most 1,000
 abbrev pub IsWithinLimits : List ℕ → Type 0
@@ -46,16 +46,16 @@ abbrev pub same : List ℕ → List ℕ → Bool
 same [] [] = true
 same [] (b ∷ b') = false
 same (a ∷ a') [] = false
-same (a ∷ a') (b ∷ b') = eqb a b && same a' b'
+same (a ∷ a') (b ∷ b') = a == b && same a' b'
 
 -- whether each exponent of a' is at most that of b'
 abbrev pub divides : List ℕ → List ℕ → Bool
 divides [] b' = true
 divides (a ∷ a') [] = false
-divides (a ∷ a') (b ∷ b') = leb a b && divides a' b'
+divides (a ∷ a') (b ∷ b') = nat_le a b && divides a' b'
 
 -- whether at each place an exponent is 0
 abbrev pub coprime : List ℕ → List ℕ → Bool
 coprime [] b' = true
 coprime (a ∷ a') [] = true
-coprime (a ∷ a') (b ∷ b') = (eqb a 0 || eqb b 0) && coprime a' b'
+coprime (a ∷ a') (b ∷ b') = (a == 0 || b == 0) && coprime a' b'

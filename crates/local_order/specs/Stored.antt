@@ -26,24 +26,29 @@ zero_at m k =
     (λ (l : m ≤ k). get_or_past (replicate m z) k z (omega (arith, length-replicate m z)))
     (cases_lt k m)
 
--- the front and zeros are what is stored
-pub front_and_zeros : (exps : List ℕ) (n total : ℕ) → IsStored exps n total → take n exps ++ replicate (8 - length (take n exps)) 0 ≡ exps
-front_and_zeros exps n total s =
-    ap (λ k. take n exps ++ replicate (8 - k) 0) (length_front exps n total s)
-    ∙ ext_get_or 0 (take n exps ++ zeros) exps long each
+-- eight numbers of which all from a place on are 0 are those before it, filled with zeros
+pub filled_with_zeros : (xs : List ℕ) (n : ℕ) → length xs ≡ 8 → n ≤ 8 → ((k : ℕ) → n ≤ k → get_or xs k 0 ≡ 0) →
+    take n xs ++ replicate (8 - length (take n xs)) 0 ≡ xs
+filled_with_zeros xs n full few rest =
+    ap (λ k. take n xs ++ replicate (8 - k) 0) front
+    ∙ ext_get_or 0 (take n xs ++ zeros) xs long each
   where
     zeros : List ℕ
     zeros = replicate (8 - n) 0
 
-    front : length (take n exps) ≡ n
-    front = length_front exps n total s
+    front : length (take n xs) ≡ n
+    front = length-take-le n xs (omega (arith, full, few))
 
-    long : length (take n exps ++ zeros) ≡ length exps
-    long = let z : ℕ = 0 in omega (arith, length-append (take n exps) zeros, front, length-replicate (8 - n) z, s.full, s.few)
+    long : length (take n xs ++ zeros) ≡ length xs
+    long = let z : ℕ = 0 in omega (arith, length-append (take n xs) zeros, front, length-replicate (8 - n) z, full, few)
 
-    each : (k : ℕ) → k < length (take n exps ++ zeros) → get_or (take n exps ++ zeros) k 0 ≡ get_or exps k 0
+    each : (k : ℕ) → k < length (take n xs ++ zeros) → get_or (take n xs ++ zeros) k 0 ≡ get_or xs k 0
     each k i =
         ⊎_elim
-        (λ (l : k < n). get_or_append_left (take n exps) zeros 0 k (omega (arith, front)) ∙ get_or-take n exps k 0 l)
-        (λ (l : n ≤ k). get_or-append_right (take n exps) zeros n k 0 front l ∙ zero_at (8 - n) (k - n) ∙ sym (s.rest k l))
+        (λ (l : k < n). get_or_append_left (take n xs) zeros 0 k (omega (arith, front)) ∙ get_or-take n xs k 0 l)
+        (λ (l : n ≤ k). get_or-append_right (take n xs) zeros n k 0 front l ∙ zero_at (8 - n) (k - n) ∙ sym (rest k l))
         (cases_lt k n)
+
+-- so the exponents of a monomial, filled with zeros, are what is stored
+pub front_and_zeros : (exps : List ℕ) (n total : ℕ) → IsStored exps n total → take n exps ++ replicate (8 - length (take n exps)) 0 ≡ exps
+front_and_zeros exps n total s = filled_with_zeros exps n s.full s.few s.rest

@@ -2,8 +2,10 @@
 #![tactic(auto)]
 
 mod compare;
+mod counting;
 pub mod laws;
 mod mono;
 mod products;
 
+pub use counting::{MAX_DEGREE, MAX_MONOMIALS, monomial_count};
 pub use mono::{MAX_EXPONENT, MAX_VARIABLES, Mono};

@@ -30,10 +30,6 @@ IsZeroBelow i a = (k : ℕ) → k < i → get_or a k 0 ≡ 0
 below_tail : (i x : ℕ) (a : List ℕ) → IsZeroBelow (suc i) (x ∷ a) → IsZeroBelow i a
 below_tail i x a z k l = z (suc k) (omega arith)
 
--- equal heads and equal tails make equal lists
-cons_same : (x y : ℕ) (a b : List ℕ) → x ≡ y → a ≡ b → (x ∷ a) ≡ (y ∷ b)
-cons_same x y a b e f = cc
-
 -- the front of the next monomial, where a right neighbour follows
 first_within : (a : List ℕ) (i e : ℕ) → suc i < length a → IsZeroBelow i a → suc e ≡ get_or a i 0 → e ≡ next_first a
 first_within [] i e l z s = absurd (omega arith)

@@ -1,6 +1,6 @@
 -- Numberings of the monomials of degree at most d by any order that goes by degree first, with products, quotients and
 -- cofactors by number: these are ranks that compute. Ours.
-use Rattle.std.specs.Prelude.{◌≡◌, ℕ, ◌+◌, ◌*◌, ◌%◌, ◌<◌, ◌≤◌, ◌⊎◌, ◌&&◌, List, length, Option, Some, None, cond, ltb, leb}
+use Rattle.std.specs.Prelude.{◌≡◌, ℕ, ◌+◌, ◌*◌, ◌%◌, ◌<◌, ◌≤◌, ◌⊎◌, ◌&&◌, List, length, Option, Some, None, nat_lt, nat_le, if◌then◌else◌}
 use Rattle.local_order.specs.Mono.{degree, mono_times, mono_quotient, divides}
 use Rattle.local_order.specs.Count.{monomial_count}
 use Rattle.local_order.specs.Shape.{Shape}
@@ -37,15 +37,15 @@ numbering T = record { count = monomial_count T.variables T.degree; mono = mono_
 
 -- the rank of a product, and the number of monomials where its degree is above d
 abbrev pub rank_times : ℕ → Numbering → ℕ → ℕ → ℕ
-rank_times d O a b = cond (ltb a O.count && (ltb b O.count && leb (degree (O.mono a) + degree (O.mono b)) d)) (O.rank (mono_times (O.mono a) (O.mono b))) O.count
+rank_times d O a b = if nat_lt a O.count && (nat_lt b O.count && nat_le (degree (O.mono a) + degree (O.mono b)) d) then O.rank (mono_times (O.mono a) (O.mono b)) else O.count
 
 -- the rank of the quotient of the monomial of rank r by that of rank a, where it divides
 abbrev pub rank_quotient : Numbering → ℕ → ℕ → Option ℕ
-rank_quotient O r a = cond (ltb r O.count && (ltb a O.count && divides (O.mono a) (O.mono r))) (Some (O.rank (mono_quotient (O.mono r) (O.mono a)))) None
+rank_quotient O r a = if nat_lt r O.count && (nat_lt a O.count && divides (O.mono a) (O.mono r)) then Some (O.rank (mono_quotient (O.mono r) (O.mono a))) else None
 
 -- the rank of what the monomial of rank a lacks to its least common multiple with that of rank b
 abbrev pub rank_cofactor : Numbering → ℕ → ℕ → ℕ
-rank_cofactor O a b = cond (ltb a O.count && ltb b O.count) (O.rank (mono_quotient (O.mono b) (O.mono a))) O.count
+rank_cofactor O a b = if nat_lt a O.count && nat_lt b O.count then O.rank (mono_quotient (O.mono b) (O.mono a)) else O.count
 
 -- the ranks of a numbering, with residues modulo p and their inverses
 abbrev pub ranks_of : ℕ → (ℕ → ℕ) → ℕ → Numbering → Ranks

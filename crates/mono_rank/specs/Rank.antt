@@ -1,5 +1,5 @@
 -- The rank of a monomial: how many of the monomials of bounded degree are greater in the order ds.
-use Rattle.std.specs.Prelude.{◌≡◌, ℕ, zero, suc, ◌<◌, ◌≤◌, ◌↔◌, List, [], ◌∷◌, length, Contains, cond, eqb, count_by, slice_index_or}
+use Rattle.std.specs.Prelude.{◌≡◌, ℕ, zero, suc, ◌<◌, ◌≤◌, ◌↔◌, List, [], ◌∷◌, length, Contains, count_by, slice_index_or, ◌==◌, if◌then◌else◌}
 use Rattle.local_order.specs.Mono.{degree}
 use Rattle.local_order.specs.Order.{IsAbove, above}
 use Rattle.local_order.specs.Count.{monomial_count, monomials}
@@ -32,7 +32,7 @@ pub record ListsMonomials (T : Shape) (s : List (List ℕ)) : Type 0 where
 -- the first monomial of a list whose rank is r
 abbrev pub first_of_rank : Shape → ℕ → List (List ℕ) → List ℕ
 first_of_rank T r [] = []
-first_of_rank T r (m ∷ s) = cond (eqb (rank_of T m) r) m (first_of_rank T r s)
+first_of_rank T r (m ∷ s) = if rank_of T m == r then m else first_of_rank T r s
 
 -- the monomial of rank r
 unfoldable pub mono_of_rank : Shape → ℕ → List ℕ

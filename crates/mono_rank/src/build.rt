@@ -9,19 +9,6 @@ ghost use Rattle.mono_rank.specs.Next.{IsNext};
 use local_order::Mono;
 use std::alloc::{AllocError, Global};
 
-/// How many monomials in `n` variables have degree at most `d`.
-pub fn monomial_count(n: u32, d: u32) -> u64
-    requires few { n ≤ 8 }
-    requires low { d ≤ 255 }
-    ensures { result ≡ number_of_monomials n d }
-{
-    let mut count = 1;
-    for k in 0..n {
-        count = count * u64::from(d + k + 1) / u64::from(k + 1);
-    }
-    count
-}
-
 /// The numbers of monomials below each degree up to `d` + 1, in one to eight variables.
 pub(crate) fn counts_below(alloc: Global, d: u32) -> Result<Vec<u64>, AllocError>
     requires { d ≤ 255 }

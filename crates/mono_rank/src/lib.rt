@@ -6,5 +6,4 @@ pub mod laws;
 mod place;
 mod table;
 
-pub use build::monomial_count;
-pub use table::{MAX_MONOMIALS, RankError, RankTable};
+pub use table::{RankError, RankTable};

@@ -9,15 +9,12 @@ ghost use Rattle.mono_rank.specs.Next.{run_of};
 ghost use Rattle.mono_rank.specs.Stored.{HasLimits};
 ghost use Rattle.mono_rank.specs.Table.{IsRefusal};
 
-use crate::build::{counts_below, falling, monomial_count as count_of};
+use crate::build::{counts_below, falling};
 use crate::place::place_of;
-use local_order::Mono;
+use local_order::{MAX_MONOMIALS, Mono, monomial_count as count_of};
 use std::alloc::Global;
 use std::marker::Model;
 use thiserror::Error;
-
-/// The greatest number of monomials that a table numbers.
-pub const MAX_MONOMIALS: u64 = 4096;
 
 /// Why there is no table.
 #[derive(Clone, Copy, Debug, PartialEq, Eq, Error)]

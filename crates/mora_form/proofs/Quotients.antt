@@ -12,6 +12,7 @@ use Rattle.mono_rank.specs.Laws.{numbering, rank_quotient, rank_cofactor}
 use Rattle.mono_rank.proofs.ByRank.{mono_of_rank-is}
 use Rattle.mono_rank.proofs.Ranks.{rank_small}
 use Rattle.mono_rank.proofs.Quotients.{is_over}
+use Rattle.mora_law.proofs.SPolynomials.{over_left}
 
 -- the quotient of two monomials of low degree is one
 pub quotient_fits : (T : Shape) (x y : List ℕ) (a b : ℕ) → HasRank T x a → HasRank T y b → Divides y x → (length (mono_quotient x y) ≡ T.variables) × (degree (mono_quotient x y) ≤ T.degree)
@@ -34,13 +35,6 @@ quotient_is T x y q r a s h k e qe qs =
       divisor = ap₂ divides my mx ∙ (divides_iff y x long).1 e;
       rank = ap (rank_of T) (ap₂ mono_quotient mx my ∙ sym qe) ∙ qs.rank;
     })
-
--- what a monomial lacks to the least common multiple with another is what the other has more
-pub lacking : (a b : List ℕ) → length a ≡ length b → mono_quotient (mono_lcm a b) a ≡ mono_quotient b a
-lacking [] [] e = refl
-lacking [] (y ∷ b) e = absurd (omega (arith, e))
-lacking (x ∷ a) [] e = absurd (omega (arith, e))
-lacking (x ∷ a) (y ∷ b) e = ap₂ (λ c s. c ∷ s) (omega arith) (lacking a b (omega (arith, e)))
 
 -- so it has low degree
 pub cofactor_fits : (T : Shape) (x y : List ℕ) (a b : ℕ) → HasRank T x a → HasRank T y b → (length (mono_quotient y x) ≡ T.variables) × (degree (mono_quotient y x) ≤ T.degree)
@@ -89,7 +83,7 @@ told_fits T x y q r a o h k e f g =
 
 -- and so has what is told as lacking to the least common multiple
 pub told_lacking : (x y z q : List ℕ) (o : Option (List ℕ)) → length x ≡ length y → z ≡ mono_lcm x y → IfSome o (λ m. m ≡ mono_quotient z x) → o ≡ Some q → q ≡ mono_quotient y x
-told_lacking x y z q o l e f g = some_is (mono_quotient z x) q o f g ∙ ap (λ s. mono_quotient s x) e ∙ lacking x y l
+told_lacking x y z q o l e f g = some_is (mono_quotient z x) q o f g ∙ ap (λ s. mono_quotient s x) e ∙ over_left x y l
 
 -- what x lacks to its least common multiple with y has no greater degree than y
 pub lacking_fits : (T : Shape) (x y q : List ℕ) (a b : ℕ) → HasRank T x a → HasRank T y b → q ≡ mono_quotient y x → (length q ≡ T.variables) × (degree q ≤ T.degree)

@@ -19,16 +19,14 @@ use Rattle.mono_rank.proofs.Numbers.{quotient_of_ranks}
 use Rattle.sparse_poly.specs.Ideal.{Problem}
 use Rattle.trunc_row.specs.Rows.{IsRow, IsZeroRow, BeginsAt, SubtractsMultiple}
 use Rattle.trunc_row.proofs.Residues.{row_small}
-use Rattle.trunc_row.proofs.Vectors.{minus_same}
 use Rattle.rank_algebra.specs.Vector.{Same, nothing, coef_at, shift, less, Agree}
 use Rattle.mora_law.specs.Ring.{numbering_of, ranks_of_problem}
 use Rattle.rank_algebra.specs.Ideal.{IsLead}
-use Rattle.rank_algebra.proofs.Residues.{same_refl, same_of, same_trans, same_add, same_mul}
+use Rattle.rank_algebra.proofs.Residues.{same_refl, same_of, same_trans, same_add, same_mul, same_mod, same_minus}
 use Rattle.rank_algebra.proofs.Linear.{agree_of}
 use Rattle.mora_law.proofs.Ring.{ranks_are}
 use Rattle.mora_law.specs.Lead.{lead}
 use Rattle.mora_law.proofs.Choice.{lead_some, lead_is}
-use Rattle.mora_law.proofs.Terms.{same_mod}
 use Rattle.mora_form.specs.State.{ring}
 use Rattle.trunc_row.specs.Vectors.{vector_of_row}
 use Rattle.mora_form.proofs.Quotients.{quotient_fits}
@@ -143,7 +141,7 @@ module _ (p : ℕ) (T : Shape) (t : InTable p) (some : 1 ≤ T.variables) where
       at k l (Some q) e =
           same_trans (same_of p _ _ (h.multiples (mono_of_rank T a) quotient q k hx hq hk))
           (same_trans (same_mod p (get_or r k 0 + (p - c) * get_or g q 0))
-          (same_add (same_refl p (get_or r k 0)) (same_mul (minus_same p c lc) (same_of p _ _ (sym (ap (coef_at (vector_of_row g)) (ring_quotient p T k a ∙ e)))))))
+          (same_add (same_refl p (get_or r k 0)) (same_mul (same_minus p c lc) (same_of p _ _ (sym (ap (coef_at (vector_of_row g)) (ring_quotient p T k a ∙ e)))))))
         where
           over : IsOver (numbering T) k a q
           over = over_is (numbering T) k a q e

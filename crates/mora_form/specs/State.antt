@@ -1,5 +1,5 @@
 -- What contracts see of a run and the entries that it knows.
-use Rattle.std.specs.Prelude.{◌≡◌, ℕ, ◌<◌, ◌≤◌, List, [], ◌∷◌, length, take, map, Bool, true, false, Option, Some, None, cond, All}
+use Rattle.std.specs.Prelude.{◌≡◌, ℕ, ◌<◌, ◌≤◌, List, [], ◌∷◌, length, take, map, Bool, true, false, Option, Some, None, All, if◌then◌else◌}
 use Rattle.local_order.specs.Shape.{Shape}
 use Rattle.sparse_poly.specs.Shape.{shape_of}
 use Rattle.rank_algebra.specs.Ranks.{Ranks}
@@ -87,7 +87,7 @@ is_stuck (Some Stuck) = true
 
 -- the readings that stay in the record when one more follows: a last one that ended with Stuck is dropped
 abbrev pub recorded : Option StepEnd → List Reading → List Reading
-recorded end reads = cond (is_stuck end) (without_last reads) reads
+recorded end reads = if is_stuck end then without_last reads else reads
 
 -- the first coefficient of a list of terms
 abbrev pub first_coef : List Term → ℕ

@@ -29,7 +29,7 @@ use Rattle.mora_law.proofs.SettledByRank.{lead_at}
 use Rattle.mora_law.proofs.EntryPolynomials.{entry_in_ring, entry_vector}
 
 -- what a lacks to the least common multiple of a and b is what it lacks to b
-over_left : (a b : List ℕ) → length a ≡ length b → mono_quotient (mono_lcm a b) a ≡ mono_quotient b a
+pub over_left : (a b : List ℕ) → length a ≡ length b → mono_quotient (mono_lcm a b) a ≡ mono_quotient b a
 over_left a b e =
     ext_get_or 0 (mono_quotient (mono_lcm a b) a) (mono_quotient b a)
     (length-mono_quotient (mono_lcm a b) a ∙ length-mono_lcm a b e ∙ sym (length-mono_quotient b a))

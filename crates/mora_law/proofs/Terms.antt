@@ -11,13 +11,9 @@ use Rattle.rank_algebra.specs.Ideal.{IsLead}
 use Rattle.mora_law.specs.Lead.{is_none_at, lead}
 use Rattle.entry_code.specs.declared.term.Term.{Term}
 use Rattle.mora_law.specs.Entries.{vector_of_terms, term_at, terms_of, monic_by, monic, lead_rank}
-use Rattle.rank_algebra.proofs.Residues.{same_of, same_sym, same_trans, same_times}
+use Rattle.rank_algebra.proofs.Residues.{same_of, same_sym, same_trans, same_times, same_mod}
 use Rattle.rank_algebra.proofs.Linear.{agree_refl, agree_trans, inverse_same}
 use Rattle.mora_law.proofs.Choice.{lead_some, none_same, some_same, lead_is}
-
--- a residue is the same as the number
-pub same_mod : (p a : ℕ) → Same p (a % p) a
-same_mod p a = record { eq = Nat.mod-mod a p }
 
 -- the term of rank r in front of later ones, where there is one
 abbrev pub term_by : ℕ → ℕ → List Term → Bool → List Term

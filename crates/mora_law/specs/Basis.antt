@@ -1,5 +1,5 @@
 -- The basis that plain division makes of the entries.
-use Rattle.std.specs.Prelude.{not, ◌&&◌, is_some, is_none, find, filter_map, option_map, ℕ, List, map, Bool, Option, eqb}
+use Rattle.std.specs.Prelude.{not, ◌&&◌, is_some, is_none, find, filter_map, option_map, ℕ, List, map, Bool, Option, ◌==◌}
 use Rattle.std.specs.List.{range_with_len}
 use Rattle.rank_algebra.specs.Ranks.{Ranks}
 use Rattle.sparse_poly.specs.Poly.{Poly}
@@ -21,7 +21,7 @@ tidied R B k = add (monomial (B.lead k)) (remainder R B (corner_of R B) (less R 
 
 -- whether lead j, which isn't the k-th itself, divides the k-th
 abbrev pub divides_other : Ranks → Basis → ℕ → ℕ → Bool
-divides_other R B k j = not (eqb j k) && is_some (R.quotient (B.lead k) (B.lead j))
+divides_other R B k j = not (j == k) && is_some (R.quotient (B.lead k) (B.lead j))
 
 -- whether no other lead divides the k-th
 abbrev pub is_minimal : Ranks → Basis → ℕ → Bool
@@ -29,7 +29,7 @@ is_minimal R B k = is_none (find (divides_other R B k) (range_with_len 0 B.size)
 
 -- the first member whose lead has the rank r and is divided by no other
 abbrev pub minimal_with : Ranks → Basis → ℕ → Option ℕ
-minimal_with R B r = find (λ k. eqb (B.lead k) r && is_minimal R B k) (range_with_len 0 B.size)
+minimal_with R B r = find (λ k. B.lead k == r && is_minimal R B k) (range_with_len 0 B.size)
 
 -- by rank, for each lead that no other lead divides: that lead plus the remainder of the other terms
 unfoldable pub plain_basis : Ranks → Basis → List (List Term)

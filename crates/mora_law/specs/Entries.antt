@@ -1,5 +1,5 @@
 -- Entries as vectors, and as polynomials.
-use Rattle.std.specs.Prelude.{filter_map, ◌≡◌, ℕ, ◌%◌, ◌<◌, List, [], ◌∷◌, length, map, Option, Some, None, cond, eqb}
+use Rattle.std.specs.Prelude.{filter_map, ◌≡◌, ℕ, ◌%◌, ◌<◌, List, [], ◌∷◌, length, map, Option, Some, None, ◌==◌, if◌then◌else◌}
 use Rattle.std.specs.List.{range_with_len}
 use Rattle.rank_algebra.specs.Ranks.{Ranks}
 use Rattle.sparse_poly.specs.Poly.{Term as PolyTerm, Poly}
@@ -14,11 +14,11 @@ use Rattle.mora_law.specs.Lead.{is_none_at, lead}
 -- the coefficients of a list of terms
 abbrev pub vector_of_terms : List Term → Vector
 vector_of_terms [] = nothing
-vector_of_terms (t ∷ ts) = λ r. cond (eqb t.rank r) t.coef (vector_of_terms ts r)
+vector_of_terms (t ∷ ts) = λ r. if t.rank == r then t.coef else vector_of_terms ts r
 
 -- the term of rank r, where there is one
 abbrev pub term_at : Ranks → Vector → ℕ → Option Term
-term_at R v r = cond (is_none_at R v r) None (Some (record { rank = r; coef = v r % R.p }))
+term_at R v r = if is_none_at R v r then None else Some (record { rank = r; coef = v r % R.p })
 
 -- the terms of v with residues as coefficients, by rank
 unfoldable pub terms_of : Ranks → Vector → List Term

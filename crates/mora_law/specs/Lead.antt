@@ -1,12 +1,12 @@
 -- The lead and the ecart of a vector.
-use Rattle.std.specs.Prelude.{find, filter, fold, not, ℕ, ◌-◌, ◌%◌, List, Bool, Option, option_map, unwrap_or, eqb, max}
+use Rattle.std.specs.Prelude.{find, filter, fold, not, ℕ, ◌-◌, ◌%◌, List, Bool, Option, option_map, unwrap_or, max, ◌==◌}
 use Rattle.std.specs.List.{range_with_len}
 use Rattle.rank_algebra.specs.Ranks.{Ranks}
 use Rattle.rank_algebra.specs.Vector.{Vector}
 
 -- whether v has no term of rank r
 abbrev pub is_none_at : Ranks → Vector → ℕ → Bool
-is_none_at R v r = eqb (v r % R.p) 0
+is_none_at R v r = (v r % R.p) == 0
 
 -- the rank of the lead: the least rank of a term; there is none where v is 0
 unfoldable pub lead : Ranks → Vector → Option ℕ

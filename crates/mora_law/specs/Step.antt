@@ -1,5 +1,5 @@
 -- One step of Mora's normal form.
-use Rattle.std.specs.Prelude.{◌≡◌, ℕ, zero, suc, ◌*◌, ◌<◌, ◌≤◌, length, get_or, List, [], ◌∷◌, ◌++◌, Bool, true, false, Option, Some, None, ltb, leb}
+use Rattle.std.specs.Prelude.{◌≡◌, ℕ, zero, suc, ◌*◌, ◌<◌, ◌≤◌, length, get_or, List, [], ◌∷◌, ◌++◌, Bool, true, false, Option, Some, None, nat_lt, nat_le}
 use Rattle.rank_algebra.specs.Ranks.{Ranks}
 use Rattle.entry_code.specs.declared.reading.Reading.{Reading}
 use Rattle.rank_algebra.specs.Vector.{Vector, nothing, shift, less, cut_at}
@@ -36,7 +36,7 @@ better_by a b false = Some b
 abbrev pub better : Ranks → Option Reducer → Option Reducer → Option Reducer
 better R None b = b
 better R (Some a) None = Some a
-better R (Some a) (Some b) = better_by a b (leb (ecart R a.poly) (ecart R b.poly))
+better R (Some a) (Some b) = better_by a b (nat_le (ecart R a.poly) (ecart R b.poly))
 
 -- the reducer of least ecart, and the first of these
 abbrev pub choose : Ranks → ℕ → List Vector → Option Reducer
@@ -72,7 +72,7 @@ reduce R kept h r None = record { end = Some Stuck; poly = h; kept = kept }
 reduce R kept h r (Some g) = record {
   end = Some Reduced;
   poly = less R (h r * R.inverse_of (g.poly g.lead)) (shift R g.cofactor g.poly) h;
-  kept = keep (ltb (ecart R h) (ecart R g.poly)) kept h;
+  kept = keep (nat_lt (ecart R h) (ecart R g.poly)) kept h;
 }
 
 -- a step on h, whose lead is told: reducers are the first `known` entries and the intermediates

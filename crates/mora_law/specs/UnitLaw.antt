@@ -1,5 +1,5 @@
 -- What a run does, up to a unit.
-use Rattle.std.specs.Prelude.{◌≡◌, ℕ, zero, suc, ◌+◌, ◌<◌, ◌≤◌, List, [], ◌∷◌, ◌++◌, length, get_or, Some, cond, eqb}
+use Rattle.std.specs.Prelude.{◌≡◌, ℕ, zero, suc, ◌+◌, ◌<◌, ◌≤◌, List, [], ◌∷◌, ◌++◌, length, get_or, Some, ◌==◌, if◌then◌else◌}
 use Rattle.local_order.specs.Mono.{degree, mono_one}
 use Rattle.rank_algebra.specs.Ranks.{Ranks}
 use Rattle.sparse_poly.specs.Poly.{Poly, coef, IsIn, cut, times, combination}
@@ -12,7 +12,7 @@ use Rattle.mora_law.specs.Lead.{lead}
 -- the constant term of the polynomial with these terms
 abbrev pub constant_term : List Term → ℕ
 constant_term [] = 0
-constant_term (t ∷ u) = cond (eqb t.rank 0) t.coef 0 + constant_term u
+constant_term (t ∷ u) = (if t.rank == 0 then t.coef else 0) + constant_term u
 
 -- the product of v with the polynomial that has these terms
 abbrev pub times_terms : Ranks → List Term → Vector → Vector

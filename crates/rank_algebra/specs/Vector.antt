@@ -1,5 +1,5 @@
 -- Polynomials cut beyond a degree as vectors: the coefficient at each rank, as any number that stands for its residue.
-use Rattle.std.specs.Prelude.{◌≡◌, ℕ, ◌+◌, ◌*◌, ◌-◌, ◌%◌, ◌<◌, Option, Some, None, cond, eqb, ltb}
+use Rattle.std.specs.Prelude.{◌≡◌, ℕ, ◌+◌, ◌*◌, ◌-◌, ◌%◌, ◌<◌, Option, Some, None, nat_lt, ◌==◌, if◌then◌else◌}
 use Rattle.rank_algebra.specs.Ranks.{Ranks}
 
 -- a and b are one residue modulo p
@@ -16,7 +16,7 @@ nothing = λ r. 0
 
 -- the monomial of rank r
 abbrev pub monomial : ℕ → Vector
-monomial r = λ x. cond (eqb x r) 1 0
+monomial r = λ x. if x == r then 1 else 0
 
 -- the sum
 abbrev pub add : Vector → Vector → Vector
@@ -41,7 +41,7 @@ less R c g v = add v (scale ((R.p - 1) * c) g)
 
 -- v without its terms of rank w or more
 abbrev pub cut_at : ℕ → Vector → Vector
-cut_at w v = λ r. cond (ltb r w) (v r) 0
+cut_at w v = λ r. if nat_lt r w then v r else 0
 
 -- v and u agree modulo p at every rank below w: with w the number of monomials they are one polynomial modulo degree d + 1,
 -- and `Agree R w v nothing` says that no term of v has a rank below w

@@ -25,7 +25,8 @@ use Rattle.ring_reader.specs.NamesView.{declared_poly, declared_ideal, declared_
 use Rattle.ring_reader.specs.RingView.{RingValue}
 use Rattle.ring_reader.specs.Parts.{no_names, no_values}
 use Rattle.ring_reader.specs.Coherent.{IsCommandIn}
-use Rattle.ring_reader.specs.Sound.{IsValue, IsGenerator, IsSoundEffect}
+use Rattle.ring_reader.specs.Sound.{IsValue, IsSoundEffect}
+use Rattle.sparse_poly.specs.Ideal.{IsGenerator}
 use Rattle.ring_reader.proofs.Loops.{meant_ok, fails_meant, fails_on}
 use Rattle.ring_reader.proofs.Handed.{All-push}
 use Rattle.ring_reader.proofs.Statements.{terms_of_ring}

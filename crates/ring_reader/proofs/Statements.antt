@@ -13,7 +13,7 @@ use Rattle.script_grammar.specs.Expressions.{Declarations}
 use Rattle.script_grammar.specs.Statements.{new_name_at, argument_at, ideal_at}
 use Rattle.script_grammar.specs.Meaning.{Values, variable_count}
 use Rattle.ring_reader.specs.Effects.{in_ring_of}
-use Rattle.ring_reader.specs.Sound.{IsGenerator}
+use Rattle.sparse_poly.specs.Ideal.{IsGenerator}
 
 -- an ideal by another one's name
 pub again_reads : (known : Declarations) (t a b start c d : Place) (name other : List ℕ) → new_name_at known t ≡ Ok (name, a) → mark_at 61 whats.Equals a ≡ Ok b
@@ -40,11 +40,6 @@ variables_of p n d gens all = λ k x within. (all k x within).variables
 pub terms_of_ring : (v : Values) (gens : List Poly) → map (λ f. f.terms) (in_ring_of v gens) ≡ gens
 terms_of_ring v [] = refl
 terms_of_ring v (g ∷ gens) = ap (λ l. g ∷ l) (terms_of_ring v gens)
-
--- generators make a problem
-pub generators_problem : (p n d : ℕ) (gens : List Polynomial) → All (IsGenerator p n d) gens → All (IsCanonical p n) (map (λ (f : Polynomial). f.terms) gens) × All (HasDegreeAtMost d) (map (λ (f : Polynomial). f.terms) gens)
-generators_problem p n d gens all =
-    (All-map (IsCanonical p n) (λ (f : Polynomial). f.terms) gens (λ k x within. (all k x within).canonical), All-map (HasDegreeAtMost d) (λ (f : Polynomial). f.terms) gens (λ k x within. (all k x within).low))
 
 -- at most 64 polynomials have at most 64 lists of terms
 pub generators_few : (gens : List Polynomial) → length gens ≤ 64 → length (map (λ (f : Polynomial). f.terms) gens) ≤ 64

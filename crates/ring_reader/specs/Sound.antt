@@ -4,6 +4,7 @@ use Rattle.prime_field.specs.Prime.{InTable}
 use Rattle.local_order.specs.Count.{monomial_count}
 use Rattle.sparse_poly.specs.Letters.{AreLetters}
 use Rattle.sparse_poly.specs.Poly.{Polynomial, IsCanonical, HasDegreeAtMost}
+use Rattle.sparse_poly.specs.Ideal.{IsGenerator}
 use Rattle.ring_reader.specs.declared.names.NamedPoly.{NamedPoly}
 use Rattle.ring_reader.specs.declared.names.NamedIdeal.{NamedIdeal}
 use Rattle.ring_reader.specs.declared.names.Names.{Names}
@@ -15,12 +16,6 @@ use Rattle.ring_reader.specs.Coherent.{IsCommandIn}
 pub record IsValue (p n : ℕ) (f : Polynomial) : Type 0 where
   pub variables : f.n ≡ n
   pub canonical : IsCanonical p n f.terms
-
--- a generator, cut beyond degree d
-pub record IsGenerator (p n d : ℕ) (f : Polynomial) : Type 0 where
-  pub variables : f.n ≡ n
-  pub canonical : IsCanonical p n f.terms
-  pub low : HasDegreeAtMost d f.terms
 
 -- the ring and the degree are within the limits, the values belong to them, and each ideal has at most 64 generators
 pub record IsSound (names : Names) : Type 0 where

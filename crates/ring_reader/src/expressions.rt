@@ -128,7 +128,7 @@ fn inner<'a>(
 
 /// An operand, and its exponent.
 #[cycle(expression)]
-#[tactic(auto, unfolding(script_grammar::specs::Expressions::power_at, script_grammar::specs::Meaning::power_value))]
+#[tactic(auto, using(sparse_poly::proofs::Sorted::residues_of), unfolding(script_grammar::specs::Expressions::power_at, script_grammar::specs::Meaning::power_value))]
 fn power<'a>(
     alloc: Global,
     names: &Names,
@@ -149,7 +149,7 @@ fn power<'a>(
 
 /// Powers joined by `*`.
 #[cycle(expression)]
-#[tactic(auto, unfolding(script_grammar::specs::Expressions::term_at, script_grammar::specs::Expressions::times_at, script_grammar::specs::Meaning::term_value))]
+#[tactic(auto, using(sparse_poly::proofs::Sorted::residues_of), unfolding(script_grammar::specs::Expressions::term_at, script_grammar::specs::Expressions::times_at, script_grammar::specs::Meaning::term_value))]
 fn term<'a>(
     alloc: Global,
     names: &Names,
@@ -192,7 +192,7 @@ fn first<'a>(
 
 /// Terms joined by `+` or `-`.
 #[cycle(expression)]
-#[tactic(auto, unfolding(script_grammar::specs::Expressions::sum_at, script_grammar::specs::Expressions::more_at, script_grammar::specs::Meaning::sum_value))]
+#[tactic(auto, using(sparse_poly::proofs::Sorted::residues_of), unfolding(script_grammar::specs::Expressions::sum_at, script_grammar::specs::Expressions::more_at, script_grammar::specs::Meaning::sum_value))]
 fn sum<'a>(
     alloc: Global,
     names: &Names,

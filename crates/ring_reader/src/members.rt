@@ -9,7 +9,8 @@ ghost use Rattle.script_grammar.specs.Statements.{no_room as no_room_at, no_room
 ghost use Rattle.ring_reader.specs.Gives.{Gives, meant};
 ghost use Rattle.ring_reader.specs.Effects.{jacobian_gens, member_gens, members_gens};
 ghost use Rattle.ring_reader.specs.NamesView.{declarations_of, values_of};
-ghost use Rattle.ring_reader.specs.Sound.{IsSound, IsValue, IsGenerator};
+ghost use Rattle.ring_reader.specs.Sound.{IsSound, IsValue};
+ghost use Rattle.sparse_poly.specs.Ideal.{IsGenerator};
 
 use crate::expressions::expression;
 use crate::lookup::{has, known};
@@ -20,11 +21,8 @@ use script_tokens::{
     Place, Token, behind, has_large, is_keyword, is_mark, is_numeral, is_short, is_word, mark,
     refused,
 };
-use sparse_poly::Poly;
+use sparse_poly::{MAX_GENERATORS, Poly};
 use std::alloc::{AllocError, Global};
-
-/// The greatest number of generators of an ideal.
-const MAX_GENERATORS: usize = 64;
 
 /// The refusal of the member that brings an ideal above the greatest number of generators: at its first token,
 /// unless that token itself is refused.
@@ -67,6 +65,7 @@ fn generator(alloc: Global, names: &Names, f: &Poly) -> Result<Poly, AllocError>
 }
 
 /// Puts the derivatives of a polynomial in the order of the variables at the end of the generators.
+#[tactic(auto, using(sparse_poly::proofs::Sorted::residues_of))]
 fn push_jacobian(
     alloc: Global,
     names: &Names,

@@ -9,15 +9,12 @@ ghost use Rattle.script_grammar.specs.Statements.{factor_at, monomial_at, factor
 ghost use Rattle.ring_reader.specs.Gives.{meant};
 ghost use Rattle.ring_reader.specs.Capped.{capped};
 
-use mono_rank::{MAX_MONOMIALS, monomial_count};
+use local_order::{MAX_DEGREE, MAX_MONOMIALS, monomial_count};
 use script_grammar::{ReadKind, Refusal, What};
 use script_tokens::{
     Place, behind, degree_within, exponent, has_large, is_mark, is_short, mark, name, refused,
 };
 use sparse_poly::Letters;
-
-/// The greatest noether degree.
-const MAX_DEGREE: u32 = 255;
 
 /// A factor of the noether monomial, by its degree, which is 256 where it is more.
 #[tactic(auto, unfolding(script_grammar::specs::Statements::factor_at))]

@@ -11,7 +11,8 @@ ghost use Rattle.ring_reader.specs.Gives.{Gives, meant};
 ghost use Rattle.ring_reader.specs.Effects.{effect_of};
 ghost use Rattle.ring_reader.specs.After.{commands_asked};
 ghost use Rattle.ring_reader.specs.NamesView.{declarations_of, values_of};
-ghost use Rattle.ring_reader.specs.Sound.{IsSound, IsGenerator, IsSoundEffect};
+ghost use Rattle.ring_reader.specs.Sound.{IsSound, IsSoundEffect};
+ghost use Rattle.sparse_poly.specs.Ideal.{IsGenerator};
 ghost use Rattle.ring_reader.specs.declared.effect.Effect.TheVariants.{Command as Commanded};
 
 use crate::effect::Effect;

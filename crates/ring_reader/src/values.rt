@@ -115,6 +115,7 @@ fn coefficient_of(names: &Names, word: &[u8]) -> u32
 }
 
 /// The polynomial with all signs turned.
+#[tactic(auto, using(sparse_poly::proofs::Sorted::residues_of))]
 pub(crate) fn opposite(alloc: Global, names: &Names, f: &Poly) -> Result<Poly, AllocError>
     requires sound { IsSound names.now }
     requires value { IsValue names.now.field (length names.now.letters) f.now }

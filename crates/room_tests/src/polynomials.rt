@@ -122,6 +122,36 @@ fn problems(rt: HostRuntime) -> Result<(), Fail> {
 }
 
 #[test]
+fn problems_from_outside(rt: HostRuntime) -> Result<(), Fail> {
+    let alloc = rt.alloc();
+    let five = field(5)?;
+    let seven = field(7)?;
+    // x + x^2 * y^2, over the numbers modulo 7 and 5 in one, as 6 is no residue modulo 5
+    let terms = [([1, 0], 1), ([2, 2], 6)];
+    for (field, n, d, copies, fits) in [
+        (&seven, 2, 4, 64, true),
+        (&seven, 2, 89, 1, true),
+        (&seven, 2, 90, 1, false),
+        (&seven, 2, 3, 1, false),
+        (&seven, 2, 0, 0, false),
+        (&seven, 1, 256, 0, false),
+        (&seven, 3, 4, 1, false),
+        (&seven, 0, 4, 0, false),
+        (&seven, 9, 1, 0, false),
+        (&seven, 2, 4, 65, false),
+        (&five, 2, 4, 1, false),
+    ] {
+        let mut gens = Polys::new(alloc);
+        for _ in 0..copies {
+            gens.push(poly(alloc, &seven, &terms)?)?;
+        }
+        let made = Problem::checked(*field, n, d, gens);
+        assert!(rt; made.is_some() == fits, "{n} variables, degree {d}, {copies} generators");
+    }
+    Ok(())
+}
+
+#[test]
 fn letters(rt: HostRuntime) {
     let cases: [(&[u8], bool); 8] = [
         (b"", false),

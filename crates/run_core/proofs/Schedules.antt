@@ -21,23 +21,13 @@ use Rattle.run_core.specs.Sound.{IsSound}
 use Rattle.run_core.specs.Schedule.{Found, is_named, find_seat, is_stuck, where_true, next_look, next_join, next_at, next_by, next, or_same, Action, after}
 use Rattle.run_core.proofs.Keeps.{keeps_sound}
 use Rattle.run_core.proofs.Opening.{opening_is_sound}
+use Rattle.rank_algebra.proofs.Searches.{and_true}
+use Rattle.mora_form.proofs.Stepping.{stuck_end}
 
--- ---- tests
-both : (a b : Bool) → (a && b) ≡ true → (a ≡ true) × (b ≡ true)
-both true b e = (refl, e)
-both false b e = absurd (true≢false (sym e))
-
--- what is false where its opposite is true
+-- ---- what is false where its opposite is true
 is_not : (b : Bool) → not b ≡ true → b ≡ false
 is_not true e = absurd (true≢false (sym e))
 is_not false e = refl
-
--- what the test for Stuck says
-stuck_is : (o : Option StepEnd) → is_stuck o ≡ true → o ≡ Some Stuck
-stuck_is None e = absurd (true≢false (sym e))
-stuck_is (Some Zero) e = absurd (true≢false (sym e))
-stuck_is (Some Reduced) e = absurd (true≢false (sym e))
-stuck_is (Some Stuck) e = refl
 
 -- the state where the test holds
 holds : (b : Bool) (t u : State) → where_true b t ≡ Some u → (b ≡ true) × (u ≡ t)
@@ -96,8 +86,8 @@ module _ (s : State) (f : Found) (at : IsAt s f.place f.seat) (t : State) where
       go false is =
           let h = holds (eqb f.seat.known (length s.entries) && (not (is_busy s f.seat) && leb (tickets s.problem f.seat.known) f.seat.seen)) (with_seat s f.place (rested f.seat)) t
           (ap (λ b. cond b (Some (with_seat s f.place (learnt f.seat))) (where_true (eqb f.seat.known (length s.entries) && (not (is_busy s f.seat) && leb (tickets s.problem f.seat.known) f.seat.seen)) (with_seat s f.place (rested f.seat)))) (sym is) ∙ e) in
-          let a = both (eqb f.seat.known (length s.entries)) (not (is_busy s f.seat) && leb (tickets s.problem f.seat.known) f.seat.seen) h.0 in
-          let b = both (not (is_busy s f.seat)) (leb (tickets s.problem f.seat.known) f.seat.seen) a.1 in
+          let a = and_true (eqb f.seat.known (length s.entries)) (not (is_busy s f.seat) && leb (tickets s.problem f.seat.known) f.seat.seen) h.0 in
+          let b = and_true (not (is_busy s f.seat)) (leb (tickets s.problem f.seat.known) f.seat.seen) a.1 in
           (f.seat, at, inr ((eqb-true f.seat.known (length s.entries) a.0, is_not (is_busy s f.seat) b.0, leb-true (tickets s.problem f.seat.known) f.seat.seen b.1), h.1))
 
   -- the name of the seat is in use
@@ -107,8 +97,8 @@ module _ (s : State) (f : Found) (at : IsAt s f.place f.seat) (t : State) where
       let r = find_is k 0 s.seats g is in
       let n = named_is k g.seat.numbers r.named in
       let h = holds (not (is_busy s f.seat) && (not (is_busy s g.seat) && not (eqb f.place g.place))) (after_join s f.place f.seat g.place g.seat) t e in
-      let a = both (not (is_busy s f.seat)) (not (is_busy s g.seat) && not (eqb f.place g.place)) h.0 in
-      let b = both (not (is_busy s g.seat)) (not (eqb f.place g.place)) a.1 in (
+      let a = and_true (not (is_busy s f.seat)) (not (is_busy s g.seat) && not (eqb f.place g.place)) h.0 in
+      let b = and_true (not (is_busy s g.seat)) (not (eqb f.place g.place)) a.1 in (
         f.seat,
         g.place,
         g.seat,
@@ -123,8 +113,8 @@ module _ (s : State) (f : Found) (at : IsAt s f.place f.seat) (t : State) where
   at_makes : (name : ℕ) → is_named name f.seat.numbers ≡ true → (event : Event) → next_at event s f ≡ Some t → Makes event s f.place t
   at_makes name named Claim e =
       let h = holds (not (is_busy s f.seat) && (eqb (length f.seat.numbers) 1 && ltb f.seat.seen (tickets s.problem f.seat.known))) (after_claim s f.place f.seat) t e in
-      let a = both (not (is_busy s f.seat)) (eqb (length f.seat.numbers) 1 && ltb f.seat.seen (tickets s.problem f.seat.known)) h.0 in
-      let b = both (eqb (length f.seat.numbers) 1) (ltb f.seat.seen (tickets s.problem f.seat.known)) a.1 in
+      let a = and_true (not (is_busy s f.seat)) (eqb (length f.seat.numbers) 1 && ltb f.seat.seen (tickets s.problem f.seat.known)) h.0 in
+      let b = and_true (eqb (length f.seat.numbers) 1) (ltb f.seat.seen (tickets s.problem f.seat.known)) a.1 in
       (f.seat, at, (is_not (is_busy s f.seat) a.0, eqb-true (length f.seat.numbers) 1 b.0, ltb-true f.seat.seen (tickets s.problem f.seat.known) b.1), h.1)
   at_makes name named Corner e = let h = holds (is_busy s f.seat) (after_corner s f.place f.seat) t e in (f.seat, at, h.0, h.1)
   at_makes name named Look e = look_makes e
@@ -132,14 +122,14 @@ module _ (s : State) (f : Found) (at : IsAt s f.place f.seat) (t : State) where
       let ends = is_stuck (hand_end s.problem (known_by s f.seat) f.seat.hand) in
       let knows = eqb (last_known 0 (reads_of f.seat.hand)) f.seat.known in
       let h = holds (is_busy s f.seat && (eqb f.seat.known (length s.entries) && (ends && knows))) (after_publish s f.place f.seat) t e in
-      let a = both (is_busy s f.seat) (eqb f.seat.known (length s.entries) && (ends && knows)) h.0 in
-      let b = both (eqb f.seat.known (length s.entries)) (ends && knows) a.1 in
-      let c = both ends knows b.1 in
-      (f.seat, at, (a.0, eqb-true f.seat.known (length s.entries) b.0, stuck_is (hand_end s.problem (known_by s f.seat) f.seat.hand) c.0, eqb-true (last_known 0 (reads_of f.seat.hand)) f.seat.known c.1), h.1)
+      let a = and_true (is_busy s f.seat) (eqb f.seat.known (length s.entries) && (ends && knows)) h.0 in
+      let b = and_true (eqb f.seat.known (length s.entries)) (ends && knows) a.1 in
+      let c = and_true ends knows b.1 in
+      (f.seat, at, (a.0, eqb-true f.seat.known (length s.entries) b.0, stuck_end (hand_end s.problem (known_by s f.seat) f.seat.hand) c.0, eqb-true (last_known 0 (reads_of f.seat.hand)) f.seat.known c.1), h.1)
   at_makes name named (Split k) e =
       let h = holds (not (is_busy s f.seat) && (ltb 1 (length f.seat.numbers) && eqb k (highest f.seat.numbers))) (after_split s f.place f.seat) t e in
-      let a = both (not (is_busy s f.seat)) (ltb 1 (length f.seat.numbers) && eqb k (highest f.seat.numbers)) h.0 in
-      let b = both (ltb 1 (length f.seat.numbers)) (eqb k (highest f.seat.numbers)) a.1 in
+      let a = and_true (not (is_busy s f.seat)) (ltb 1 (length f.seat.numbers) && eqb k (highest f.seat.numbers)) h.0 in
+      let b = and_true (ltb 1 (length f.seat.numbers)) (eqb k (highest f.seat.numbers)) a.1 in
       (f.seat, at, (is_not (is_busy s f.seat) a.0, ltb-true 1 (length f.seat.numbers) b.0, eqb-true k (highest f.seat.numbers) b.1), h.1)
   at_makes name named (Join k) e = join_makes k name named (find_seat k 0 s.seats) refl e
 

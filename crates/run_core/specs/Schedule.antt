@@ -1,5 +1,5 @@
 -- Schedules: events of seats in a row, where an event whose condition doesn't hold changes nothing.
-use Rattle.std.specs.Prelude.{ℕ, suc, ◌&&◌, Bool, true, false, not, List, [], ◌∷◌, length, Option, Some, None, cond, eqb, ltb, leb}
+use Rattle.std.specs.Prelude.{ℕ, suc, ◌&&◌, Bool, true, false, not, List, [], ◌∷◌, length, Option, Some, None, nat_lt, nat_le, ◌==◌, if◌then◌else◌}
 use Rattle.mora_law.specs.declared.step_end.StepEnd.{StepEnd}
 use Rattle.mora_law.specs.declared.step_end.StepEnd.TheVariants.{Zero, Reduced, Stuck}
 use Rattle.mora_law.specs.Run.{last_known}
@@ -18,12 +18,12 @@ pub record Found : Type 0 where
 -- whether a seat with these numbers has the name k
 abbrev pub is_named : ℕ → List ℕ → Bool
 is_named k [] = false
-is_named k (n ∷ ns) = eqb k (lowest (n ∷ ns))
+is_named k (n ∷ ns) = k == lowest (n ∷ ns)
 
 -- the first seat with the name k, where the first of these stands at a place
 abbrev pub find_seat : ℕ → ℕ → List Seat → Option Found
 find_seat k place [] = None
-find_seat k place (v ∷ seats) = cond (is_named k v.numbers) (Some (record { place = place; seat = v })) (find_seat k (suc place) seats)
+find_seat k place (v ∷ seats) = if is_named k v.numbers then Some (record { place = place; seat = v }) else find_seat k (suc place) seats
 
 -- whether a run ends with Stuck
 abbrev pub is_stuck : Option StepEnd → Bool
@@ -39,7 +39,7 @@ where_true false t = None
 
 -- Claim by its tests
 abbrev pub next_claim : State → Found → Option State
-next_claim s f = where_true (not (is_busy s f.seat) && (eqb (length f.seat.numbers) 1 && ltb f.seat.seen (tickets s.problem f.seat.known))) (after_claim s f.place f.seat)
+next_claim s f = where_true (not (is_busy s f.seat) && (length f.seat.numbers == 1 && nat_lt f.seat.seen (tickets s.problem f.seat.known))) (after_claim s f.place f.seat)
 
 -- Corner by its test
 abbrev pub next_corner : State → Found → Option State
@@ -48,24 +48,24 @@ next_corner s f = where_true (is_busy s f.seat) (after_corner s f.place f.seat)
 -- Look by its tests: a further entry, or rest
 abbrev pub next_look : State → Found → Option State
 next_look s f =
-    cond (ltb f.seat.known (length s.entries)) (Some (with_seat s f.place (learnt f.seat)))
-    (where_true (eqb f.seat.known (length s.entries) && (not (is_busy s f.seat) && leb (tickets s.problem f.seat.known) f.seat.seen)) (with_seat s f.place (rested f.seat)))
+    if nat_lt f.seat.known (length s.entries) then Some (with_seat s f.place (learnt f.seat))
+    else where_true (f.seat.known == length s.entries && (not (is_busy s f.seat) && nat_le (tickets s.problem f.seat.known) f.seat.seen)) (with_seat s f.place (rested f.seat))
 
 -- Publish by its tests
 abbrev pub next_publish : State → Found → Option State
 next_publish s f =
     where_true
-    (is_busy s f.seat && (eqb f.seat.known (length s.entries) && (is_stuck (hand_end s.problem (known_by s f.seat) f.seat.hand) && eqb (last_known 0 (reads_of f.seat.hand)) f.seat.known)))
+    (is_busy s f.seat && (f.seat.known == length s.entries && (is_stuck (hand_end s.problem (known_by s f.seat) f.seat.hand) && last_known 0 (reads_of f.seat.hand) == f.seat.known)))
     (after_publish s f.place f.seat)
 
 -- Split by its tests
 abbrev pub next_split : ℕ → State → Found → Option State
-next_split k s f = where_true (not (is_busy s f.seat) && (ltb 1 (length f.seat.numbers) && eqb k (highest f.seat.numbers))) (after_split s f.place f.seat)
+next_split k s f = where_true (not (is_busy s f.seat) && (nat_lt 1 (length f.seat.numbers) && k == highest f.seat.numbers)) (after_split s f.place f.seat)
 
 -- with the other seat, where there is one
 abbrev pub next_join : State → Found → Option Found → Option State
 next_join s f None = None
-next_join s f (Some g) = where_true (not (is_busy s f.seat) && (not (is_busy s g.seat) && not (eqb f.place g.place))) (after_join s f.place f.seat g.place g.seat)
+next_join s f (Some g) = where_true (not (is_busy s f.seat) && (not (is_busy s g.seat) && not (f.place == g.place))) (after_join s f.place f.seat g.place g.seat)
 
 -- what an event of a seat makes, where its condition holds
 abbrev pub next_at : Event → State → Found → Option State

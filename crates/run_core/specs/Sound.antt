@@ -1,5 +1,5 @@
 -- What every state keeps.
-use Rattle.std.specs.Prelude.{◌≡◌, ◌≢◌, ◌⊎◌, ℕ, ◌<◌, ◌≤◌, true, false, List, [], length, take, sum_by, ltb, Some, None, if◌then◌else◌}
+use Rattle.std.specs.Prelude.{◌≡◌, ◌≢◌, ◌⊎◌, ℕ, ◌<◌, ◌≤◌, true, false, List, [], length, take, sum_by, Some, None, if◌then◌else◌, nat_lt}
 use mathlib.Core.Option.{some}
 use lib.ListN.{get_elem?}
 use Rattle.sparse_poly.specs.Ideal.{Problem}
@@ -59,7 +59,7 @@ IsWholeKnown P ticket entries seats =
 pub record IsSound (s : State) : Type 0 where
   pub problem : IsAdmissible s.problem
   -- each number below that of the workers belongs to one seat, and no other number to any
-  pub numbers : (x : ℕ) → sum_by (λ v. times x v.numbers) s.seats ≡ (if ltb x s.workers then 1 else 0)
+  pub numbers : (x : ℕ) → sum_by (λ v. times x v.numbers) s.seats ≡ (if nat_lt x s.workers then 1 else 0)
   pub sizes : sum_by (λ v. length v.numbers) s.seats ≡ s.workers
   pub legal : Legal s.problem s.entries
   pub covers : corner s.problem s.entries ≤ s.corner

@@ -1,5 +1,5 @@
 -- Seats and states.
-use Rattle.std.specs.Prelude.{◌≡◌, ℕ, ◌-◌, Bool, false, List, [], ◌∷◌, length, take, Option, None, cond, eqb, count_by, max, min}
+use Rattle.std.specs.Prelude.{◌≡◌, ℕ, ◌-◌, Bool, false, List, [], ◌∷◌, length, take, Option, None, count_by, max, min, ◌==◌, if◌then◌else◌}
 use Rattle.std.specs.List.{range_with_len}
 use mathlib.Core.Option.{some}
 use lib.ListN.{get_elem?}
@@ -46,7 +46,7 @@ is_busy s v = has_open s.problem (known_by s v) v.hand
 
 -- how often x is in the list
 abbrev pub times : ℕ → List ℕ → ℕ
-times x xs = count_by (λ y. eqb x y) xs
+times x xs = count_by (λ y. x == y) xs
 
 -- the greatest number
 abbrev pub highest : List ℕ → ℕ
@@ -62,7 +62,7 @@ lowest (n ∷ k ∷ ns) = min n (lowest (k ∷ ns))
 -- the list without its first x
 abbrev pub without : ℕ → List ℕ → List ℕ
 without x [] = []
-without x (n ∷ ns) = cond (eqb x n) ns (n ∷ without x ns)
+without x (n ∷ ns) = if x == n then ns else n ∷ without x ns
 
 -- a seat with these numbers that has done nothing
 abbrev pub fresh : List ℕ → Seat

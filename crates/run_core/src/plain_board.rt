@@ -11,7 +11,7 @@ ghost use Rattle.run_core.specs.Plain.{plain_opening, is_working, plain_end, pla
 
 use crate::ghost_hand::GhostHand;
 use entry_code::{Entries, Entry, Reads, Terms};
-use mono_rank::monomial_count;
+use local_order::monomial_count;
 use sparse_poly::Problem;
 use std::alloc::{AllocError, Global};
 use std::marker::Model;

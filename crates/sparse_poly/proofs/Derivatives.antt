@@ -9,7 +9,7 @@ use Rattle.std.proofs.lemmas.List.{take-replicate, length-replicate, append-nil}
 use Rattle.prime_field.proofs.Residue.{mul_same}
 use Rattle.local_order.specs.Mono.{mono_one, mono_times, mono_quotient, Divides, same}
 use Rattle.local_order.specs.Order.{IsAbove}
-use Rattle.local_order.proofs.Order.{same-true, same_self, same-false, above_cases, above_irrefl, above_trans, above-mono_times}
+use Rattle.local_order.proofs.Order.{cons_same, same-true, same_self, same-false, above_cases, above_irrefl, above_trans, above-mono_times}
 use Rattle.local_order.proofs.Division.{one_times}
 use Rattle.sparse_poly.specs.Poly.{Term, Poly, total, lowered, derivative, IsIn, IsCanonical}
 use Rattle.sparse_poly.specs.Canonical.{canonical, in_front}
@@ -26,10 +26,6 @@ front_variable m n i k e f l few =
     ∙ ap (λ j. take j (slice_set (replicate 8 0) i 1)) f
     ∙ take-set-lt n (replicate 8 0) i 1 l
     ∙ ap (λ zeros. slice_set zeros i 1) (take-replicate n 8 0 few)
-
--- lists with the same first member and the same rest are the same
-cons_same : (x y : ℕ) (a b : List ℕ) → x ≡ y → a ≡ b → (x ∷ a) ≡ (y ∷ b)
-cons_same x y a b e f = cc
 
 -- the quotient by 1 is the monomial
 by_one : (m : List ℕ) → mono_quotient m (mono_one (length m)) ≡ m

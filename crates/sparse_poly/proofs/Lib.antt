@@ -1,6 +1,7 @@
 pub mod Coef
 pub mod Member
 pub mod Span
+pub mod Sorted
 pub mod Unique
 pub mod Canonical
 pub mod Cuts
@@ -13,6 +14,7 @@ pub mod Scaling
 pub mod Derivatives
 pub mod Views
 pub mod Lists
+pub mod Generators
 pub mod Distinct
 pub mod Falling
 pub mod Difference

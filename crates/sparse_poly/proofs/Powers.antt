@@ -8,7 +8,8 @@ use Rattle.sparse_poly.proofs.Canonical.{canonical_self}
 use Rattle.sparse_poly.proofs.Coef.{total-cut_in}
 use Rattle.sparse_poly.proofs.Cuts.{cut-low, cut-written, in-cut, IsCanonical-cut}
 use Rattle.sparse_poly.proofs.Member.{Agree, in-times}
-use Rattle.sparse_poly.proofs.Ring.{ring, total-times_comm, agree-times, agree-power, agree-written, written-agree, times-assoc, times-one, power-double, in-power, IsCanonical-product}
+use Rattle.sparse_poly.specs.Ideal.{ring}
+use Rattle.sparse_poly.proofs.Ring.{total-times_comm, agree-times, agree-power, agree-written, written-agree, times-assoc, times-one, power-double, in-power, IsCanonical-product}
 use Rattle.sparse_poly.proofs.Unique.{in_of_canonical}
 
 -- x times the power of b by what is left is the power of a by e

@@ -8,7 +8,7 @@ use Rattle.local_order.proofs.Order.{mono_times_comm}
 use Rattle.local_order.proofs.Division.{one_times}
 use Rattle.sparse_poly.specs.Poly.{Term, Poly, total, cut, term_times, times, one, power, IsIn, IsSame, IsCanonical}
 use Rattle.sparse_poly.specs.Canonical.{canonical}
-use Rattle.sparse_poly.specs.Ideal.{Problem}
+use Rattle.sparse_poly.specs.Ideal.{Problem, ring}
 use Rattle.sparse_poly.proofs.Coef.{total-append, times-append, times-term_times, total-cut_in, term_cons}
 use Rattle.sparse_poly.proofs.Member.{Agree, agree, agree-append, agree-term_times, in-times, in-take, in-drop, cut_same}
 use Rattle.sparse_poly.proofs.Span.{total-scale}
@@ -145,10 +145,6 @@ IsCanonical-product p n d (t ∷ f) g v w =
     (in-cut n d (times (t ∷ f) g) (in-times n (t ∷ f) g (in_of_canonical p n (t ∷ f) v) (in_of_canonical p n g w)))
 
 -- ---- with no degree
--- the ring in n variables modulo p, up to degree d
-abbrev pub ring : ℕ → ℕ → ℕ → Problem
-ring p n d = record { p = p; n = n; d = d; gens = [] }
-
 -- products see only the coefficients
 pub same-times : (p n : ℕ) (f g h k : Poly) → IsIn n f → IsIn n g → IsIn n h → IsIn n k → IsSame p n f g → IsSame p n h k → IsSame p n (times f h) (times g k)
 same-times p n f g h k a b c d s t m l =

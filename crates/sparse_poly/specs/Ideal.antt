@@ -5,7 +5,7 @@ use Rattle.prime_field.specs.Prime.{InTable}
 use Rattle.local_order.specs.Mono.{degree, Divides}
 use Rattle.local_order.specs.Count.{monomial_count}
 use Rattle.local_order.specs.Order.{IsAbove}
-use Rattle.sparse_poly.specs.Poly.{Poly, coef, IsIn, IsSame, cut, combination, IsCanonical, HasDegreeAtMost}
+use Rattle.sparse_poly.specs.Poly.{Poly, Polynomial, coef, IsIn, IsSame, cut, combination, IsCanonical, HasDegreeAtMost}
 
 -- a prime, the number of variables, a degree and generators
 pub record Problem : Type 0 where
@@ -27,9 +27,15 @@ pub record IsProblem (P : Problem) : Type 0 where
   pub low : All (HasDegreeAtMost P.d) P.gens
   pub few_gens : length P.gens ≤ 64
 
--- the ring alone, as the problem without generators
-abbrev pub ring : ℕ → ℕ → Problem
-ring p n = record { p = p; n = n; d = 0; gens = [] }
+-- f is in the ring in n variables modulo p, and of degree at most d
+pub record IsGenerator (p n d : ℕ) (f : Polynomial) : Type 0 where
+  pub variables : f.n ≡ n
+  pub canonical : IsCanonical p n f.terms
+  pub low : HasDegreeAtMost d f.terms
+
+-- the ring in n variables modulo p, up to degree d: the problem without generators
+abbrev pub ring : ℕ → ℕ → ℕ → Problem
+ring p n d = record { p = p; n = n; d = d; gens = [] }
 
 -- the order of a problem's ring, which is ds: a is the greater. Of all that follows this alone knows which order it is
 abbrev pub IsGreater : Problem → List ℕ → List ℕ → Type 0

@@ -1,5 +1,5 @@
 -- Polynomials over the numbers modulo p, by their terms.
-use Rattle.std.specs.Prelude.{◌≡◌, ℕ, zero, suc, ◌+◌, ◌-◌, ◌*◌, ◌%◌, ◌<◌, ◌≤◌, List, [], ◌∷◌, ◌++◌, length, All, slice_index, slice_set, cond, leb}
+use Rattle.std.specs.Prelude.{◌≡◌, ℕ, zero, suc, ◌+◌, ◌-◌, ◌*◌, ◌%◌, ◌<◌, ◌≤◌, List, [], ◌∷◌, ◌++◌, length, All, slice_index, slice_set, nat_le, if◌then◌else◌}
 use Rattle.sparse_poly.specs.declared.term.PolyTerm.{PolyTerm}
 use Rattle.local_order.specs.Mono.{degree, mono_one, mono_times, same}
 use Rattle.local_order.specs.Order.{IsAbove}
@@ -24,7 +24,7 @@ in_variables n f = record { n = n; terms = f }
 -- what the terms at m add up to
 abbrev pub total : Poly → List ℕ → ℕ
 total [] m = 0
-total (t ∷ f) m = cond (same t.mono m) t.coef 0 + total f m
+total (t ∷ f) m = (if same t.mono m then t.coef else 0) + total f m
 
 -- the coefficient of f at m
 abbrev pub coef : ℕ → Poly → List ℕ → ℕ
@@ -46,7 +46,7 @@ HasDegreeAtMost d f = All (λ t. degree t.mono ≤ d) f
 -- f without its terms of degree above d
 abbrev pub cut : ℕ → Poly → Poly
 cut d [] = []
-cut d (t ∷ f) = cond (leb (degree t.mono) d) (t ∷ cut d f) (cut d f)
+cut d (t ∷ f) = if nat_le (degree t.mono) d then t ∷ cut d f else cut d f
 
 -- the exponents m with that of variable i one less
 abbrev pub lowered : ℕ → List ℕ → List ℕ
@@ -90,7 +90,16 @@ abbrev pub IsAboveFirst : List ℕ → Poly → Type 0
 IsAboveFirst m [] = Unit {0}
 IsAboveFirst m (t ∷ f) = IsAbove m t.mono
 
--- f is written in the one way that a `Poly` has, whichever order a problem has: terms falling in the order ds, with
+-- f is sorted: each term has n exponents and a coefficient that isn't 0, and the monomials fall in the order ds
+abbrev pub IsSorted : ℕ → Poly → Type 0
+IsSorted n [] = Unit {0}
+IsSorted n (t ∷ f) = (length t.mono ≡ n) × (0 < t.coef) × IsAboveFirst t.mono f × IsSorted n f
+
+-- the coefficients of f are residues modulo p
+abbrev pub HasResidues : ℕ → Poly → Type 0
+HasResidues p f = All (λ t. t.coef < p) f
+
+-- f is written in the one way that a polynomial has, whichever order a problem has: terms falling in the order ds, with
 -- coefficients from 1 to p - 1
 abbrev pub IsCanonical : ℕ → ℕ → Poly → Type 0
 IsCanonical p n [] = Unit {0}

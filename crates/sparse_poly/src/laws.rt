@@ -3,7 +3,7 @@
 
 ghost use Rattle.std.specs.Prelude.{◌≡◌, ◌↔◌, ◌+◌, ◌-◌, ◌*◌, ◌%◌, ◌<◌, ◌≤◌, ℕ, List, [], ◌∷◌, ◌++◌, length, All, Contains, slice_index, slice_set};
 ghost use Rattle.local_order.specs.Mono.{degree, mono_times, Divides};
-ghost use Rattle.sparse_poly.specs.Poly.{Term, Poly, coef, cut, derivative, one, power, term_times, times, HasDegreeAtMost, IsCanonical, IsIn, IsSame};
+ghost use Rattle.sparse_poly.specs.Poly.{Term, Poly, coef, cut, derivative, one, power, term_times, times, HasDegreeAtMost, HasResidues, IsCanonical, IsIn, IsSame, IsSorted};
 ghost use Rattle.sparse_poly.specs.Canonical.{canonical};
 ghost use Rattle.sparse_poly.specs.Ideal.{Problem, IsLead, IsInIdeal, HasCanonicalCofactors};
 ghost use Rattle.sparse_poly.specs.Span.{Span, AreMultiples};
@@ -60,8 +60,9 @@ pub fn powers_add_exponents()
     ensures { (n j k : ℕ) (f : Poly) → IsIn n f → power n f (j + k) ≡ times (power n f j) (power n f k) }
 {}
 
-/// Each polynomial has one canonical list.
+/// Each polynomial has one canonical list: it is sorted, and its coefficients are residues.
 pub fn canonical_lists()
+    ensures sorted { (p n : ℕ) (f : Poly) → IsCanonical p n f ↔ (IsSorted n f × HasResidues p f) }
     ensures coefficients { (p : ℕ) (f : Poly) (m : List ℕ) → coef p (canonical p f) m ≡ coef p f m }
     ensures degree { (p d : ℕ) (f : Poly) → HasDegreeAtMost d f → HasDegreeAtMost d (canonical p f) }
     ensures form { (p n : ℕ) (f : Poly) → 0 < p → IsIn n f → IsCanonical p n (canonical p f) }

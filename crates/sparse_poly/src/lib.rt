@@ -17,5 +17,5 @@ mod term;
 pub use letters::Letters;
 pub use poly::Poly;
 pub use polys::Polys;
-pub use problem::Problem;
+pub use problem::{MAX_GENERATORS, Problem};
 pub use term::PolyTerm;

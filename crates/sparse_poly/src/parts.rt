@@ -2,7 +2,7 @@
 
 ghost use Rattle.std.specs.Prelude.{◌≡◌, ◌≢◌, ℕ, ◌<◌, ◌≤◌, List, [], IfOk};
 ghost use Rattle.prime_field.specs.Inverse.{inverse};
-ghost use Rattle.sparse_poly.specs.Poly.{coef, cut, derivative, term_times, IsCanonical};
+ghost use Rattle.sparse_poly.specs.Poly.{coef, cut, derivative, term_times, HasResidues, IsCanonical};
 ghost use Rattle.sparse_poly.specs.Canonical.{canonical};
 ghost use Rattle.sparse_poly.specs.Ideal.{ring, IsLead};
 
@@ -16,8 +16,7 @@ impl Poly {
     /// The polynomial without its terms of degree above `degree`.
     pub fn cut(&self, alloc: Global, degree: u32) -> Result<Poly, AllocError>
         ensures value { IfOk result (λ f. f ≡ record { n = self.now.n; terms = cut degree self.now.terms }) }
-        ensures canonical { IfOk result (λ f. (p : ℕ) → IsCanonical p self.now.n self.now.terms
-            → IsCanonical p f.n f.terms) }
+        ensures residues { IfOk result (λ f. (p : ℕ) → HasResidues p self.now.terms → HasResidues p f.terms) }
     {
         let mut terms = Vec::with_capacity(alloc, self.terms.len())?;
         for term in &self.terms {
@@ -35,7 +34,7 @@ impl Poly {
         field: &Field,
         variable: u32,
     ) -> Result<Poly, AllocError>
-        requires own { IsCanonical field.now self.now.n self.now.terms }
+        requires own { HasResidues field.now self.now.terms }
         requires within { variable < self.now.n }
         ensures value { IfOk result (λ f. f ≡ record {
           n = self.now.n;
@@ -57,15 +56,15 @@ impl Poly {
 
     /// The multiple with leading coefficient 1.
     pub fn monic(&self, alloc: Global, field: &Field) -> Result<Poly, AllocError>
-        requires own { IsCanonical field.now self.now.n self.now.terms }
+        requires own { HasResidues field.now self.now.terms }
         requires some { self.now.terms ≢ [] }
-        ensures value { IfOk result (λ f. (m : List ℕ) → IsLead (ring field.now self.now.n) self.now.terms m
+        ensures value { IfOk result (λ f. (m : List ℕ) → IsLead (ring field.now self.now.n 0) self.now.terms m
             → f ≡ record {
               n = self.now.n;
               terms = canonical field.now (term_times (inverse field.now (coef field.now self.now.terms m)) [] self.now.terms);
             }) }
         ensures canonical { IfOk result (λ f. IsCanonical field.now f.n f.terms) }
-        ensures lead { IfOk result (λ f. (m : List ℕ) → IsLead (ring field.now self.now.n) self.now.terms m
+        ensures lead { IfOk result (λ f. (m : List ℕ) → IsLead (ring field.now self.now.n 0) self.now.terms m
             → coef field.now f.terms m ≡ 1) }
     {
         let factor = field.inv(self.terms[0].coef);

@@ -1,7 +1,7 @@
 //! Polynomials: their making and reading.
 
 ghost use Rattle.std.specs.Prelude.{◌≡◌, ℕ, ◌<◌, ◌≤◌, ◌↔◌, [], length, IfOk, IsTrue, slice_get, Some};
-ghost use Rattle.sparse_poly.specs.Poly.{IsCanonical, IsIn};
+ghost use Rattle.sparse_poly.specs.Poly.{IsCanonical, IsIn, IsSorted};
 ghost use Rattle.sparse_poly.specs.Canonical.{canonical};
 
 use crate::sums::sum_of;
@@ -11,7 +11,7 @@ use std::alloc::{AllocError, Global};
 use std::marker::Model;
 
 /// A polynomial in one to eight variables, with coefficients modulo a prime.
-/// A contract sees the number of its variables and its terms, the greatest first in the order ds.
+/// A contract sees the number of its variables and its terms, the greatest first in the order ds, none with coefficient 0.
 #[derive(Drop)]
 pub struct Poly {
     pub(crate) n: u32,
@@ -20,13 +20,13 @@ pub struct Poly {
 
 impl Model for Poly {
     ghost use Rattle.std.specs.Prelude.{◌≤◌};
-    ghost use Rattle.sparse_poly.specs.Poly.{Polynomial};
+    ghost use Rattle.sparse_poly.specs.Poly.{Polynomial, IsSorted};
 
     ghost Value = { Polynomial };
 
     ghost view = { λ f. record { n = f.n; terms = f.terms.items } };
 
-    ghost invariant = { λ f. (1 ≤ f.n) × (f.n ≤ 8) };
+    ghost invariant = { λ f. (1 ≤ f.n) × (f.n ≤ 8) × IsSorted f.n f.terms.items };
 }
 
 impl Poly {
@@ -85,7 +85,8 @@ impl Poly {
 
     /// The terms, the greatest first.
     pub fn terms(&self) -> &[PolyTerm]
-        ensures { result.now ≡ self.now.terms }
+        ensures value { result.now ≡ self.now.terms }
+        ensures sorted { IsSorted self.now.n self.now.terms }
     {
         &self.terms
     }

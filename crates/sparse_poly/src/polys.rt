@@ -60,6 +60,13 @@ impl Polys {
         &self.items[i]
     }
 
+    /// The members.
+    pub fn as_slice(&self) -> &[Poly]
+        ensures { result.now ≡ self.now }
+    {
+        &self.items
+    }
+
     /// Puts one more member at the end.
     pub fn push(&mut self, f: Poly) -> Result<(), AllocError>
         ensures ok { OnOk result (self.new ≡ self.old ++ f ∷ []) }

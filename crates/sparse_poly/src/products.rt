@@ -1,7 +1,7 @@
 //! Products and powers of polynomials, without the terms above a degree.
 
 ghost use Rattle.std.specs.Prelude.{◌≡◌, ℕ, ◌≤◌, IfOk};
-ghost use Rattle.sparse_poly.specs.Poly.{cut, times, one, power, IsCanonical};
+ghost use Rattle.sparse_poly.specs.Poly.{cut, times, one, power, HasResidues, IsCanonical};
 ghost use Rattle.sparse_poly.specs.Canonical.{canonical};
 
 use crate::monomials::constant;
@@ -22,8 +22,8 @@ impl Poly {
         other: &Poly,
         degree: u32,
     ) -> Result<Poly, AllocError>
-        requires own { IsCanonical field.now self.now.n self.now.terms }
-        requires other { IsCanonical field.now other.now.n other.now.terms }
+        requires own { HasResidues field.now self.now.terms }
+        requires other { HasResidues field.now other.now.terms }
         requires one_n { other.now.n ≡ self.now.n }
         requires degree { degree ≤ 1000 }
         ensures value { IfOk result (λ f. f ≡ record {
@@ -45,7 +45,7 @@ impl Poly {
         exponent: u32,
         degree: u32,
     ) -> Result<Poly, AllocError>
-        requires own { IsCanonical field.now self.now.n self.now.terms }
+        requires own { HasResidues field.now self.now.terms }
         requires degree { degree ≤ 1000 }
         ensures value { IfOk result (λ f. f ≡ record {
           n = self.now.n;

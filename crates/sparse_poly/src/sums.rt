@@ -1,7 +1,7 @@
 //! Sums of polynomials.
 
 ghost use Rattle.std.specs.Prelude.{◌≡◌, ℕ, [], ◌++◌, ◌-◌, IfOk};
-ghost use Rattle.sparse_poly.specs.Poly.{term_times, IsCanonical, IsIn};
+ghost use Rattle.sparse_poly.specs.Poly.{term_times, HasResidues, IsCanonical, IsIn};
 ghost use Rattle.sparse_poly.specs.Canonical.{canonical};
 
 use crate::multiples::{push_term, scaled};
@@ -14,8 +14,8 @@ use std::cmp::Ordering;
 impl Poly {
     /// The sum of the two.
     pub fn add(&self, alloc: Global, field: &Field, other: &Poly) -> Result<Poly, AllocError>
-        requires own { IsCanonical field.now self.now.n self.now.terms }
-        requires other { IsCanonical field.now other.now.n other.now.terms }
+        requires own { HasResidues field.now self.now.terms }
+        requires other { HasResidues field.now other.now.terms }
         requires one_n { other.now.n ≡ self.now.n }
         ensures value { IfOk result (λ f. f ≡ record {
           n = self.now.n;
@@ -29,8 +29,8 @@ impl Poly {
 
     /// The difference of the two.
     pub fn sub(&self, alloc: Global, field: &Field, other: &Poly) -> Result<Poly, AllocError>
-        requires own { IsCanonical field.now self.now.n self.now.terms }
-        requires other { IsCanonical field.now other.now.n other.now.terms }
+        requires own { HasResidues field.now self.now.terms }
+        requires other { HasResidues field.now other.now.terms }
         requires one_n { other.now.n ≡ self.now.n }
         ensures value { IfOk result (λ f. f ≡ record {
           n = self.now.n;

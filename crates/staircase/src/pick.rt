@@ -1,6 +1,6 @@
 //! What a staircase is picked from, and what is picked from it.
 
-ghost use Rattle.std.specs.Prelude.{◌≡◌, ℕ, List, ◌+◌, ◌<◌, ◌≤◌, ◌↔◌, All, Contains, count_by, ltb, leb, ◌&&◌, IsTrue, IfOk, MatchOption};
+ghost use Rattle.std.specs.Prelude.{◌≡◌, ℕ, List, ◌+◌, ◌<◌, ◌≤◌, ◌↔◌, All, Contains, count_by, nat_lt, nat_le, ◌&&◌, IsTrue, IfOk, MatchOption};
 ghost use Rattle.local_order.specs.Shape.{count};
 ghost use Rattle.mono_rank.specs.Rank.{HasRank};
 ghost use Rattle.mono_rank.specs.Cover.{IsMultiple};
@@ -58,7 +58,7 @@ pub(crate) fn first_ranks(alloc: Global, table: &RankTable, d: u32) -> Result<Ve
 
 /// How many of the ranks are from `low` to below `high`.
 pub(crate) fn count_between(ranks: &[u32], low: u32, high: u32) -> usize
-    ensures { result ≡ count_by (λ r. leb low r && ltb r high) ranks.now }
+    ensures { result ≡ count_by (λ r. nat_le low r && nat_lt r high) ranks.now }
 {
     ranks.iter().filter(|r| low <= **r && **r < high).count()
 }

@@ -11,13 +11,11 @@ use Rattle.rank_algebra.specs.Ranks.{IsRanks}
 use Rattle.sparse_poly.specs.Ideal.{Problem}
 use Rattle.trunc_row.specs.Rows.{IsRow}
 use Rattle.trunc_row.proofs.Residues.{row_set}
-use Rattle.trunc_row.proofs.Vectors.{minus_same}
 use Rattle.entry_code.specs.declared.term.Term.{Term}
 use Rattle.rank_algebra.specs.Vector.{Same, Vector, coef_at, shift, less}
 use Rattle.mora_law.specs.Ring.{ranks_of_problem, IsAdmissible}
-use Rattle.rank_algebra.proofs.Residues.{same_refl, same_of, same_trans, same_add, same_mul}
+use Rattle.rank_algebra.proofs.Residues.{same_refl, same_of, same_trans, same_add, same_mul, same_mod, same_minus}
 use Rattle.mora_law.proofs.Ring.{ranks_are}
-use Rattle.mora_law.proofs.Terms.{same_mod}
 use Rattle.rank_algebra.proofs.First.{shift_at}
 use Rattle.mora_law.specs.Entries.{vector_of_terms}
 use Rattle.tail_reduce.specs.Rows.{HasVector, AreTerms}
@@ -102,7 +100,7 @@ module _ (P : Problem) (h : IsAdmissible P) where
 
       part : Same P.p m ((P.p - 1) * c * t.coef)
       part = same_trans (same_of P.p _ _ ve) (same_trans (same_mod P.p (minus * t.coef))
-          (same_mul (same_trans (same_of P.p _ _ me) (same_trans (same_mod P.p (P.p - c)) (minus_same P.p c residue))) (same_refl P.p t.coef)))
+          (same_mul (same_trans (same_of P.p _ _ me) (same_trans (same_mod P.p (P.p - c)) (same_minus P.p c residue))) (same_refl P.p t.coef)))
 
       here : Same P.p (get_or (set new place v) place 0) (get_or old place 0 + (P.p - 1) * c * at a ts (i + 1) place)
       here =

@@ -7,4 +7,3 @@ pub mod TermRows
 mod Writing
 pub mod Cuts
 pub mod RowPolynomials
-pub mod Vectors

@@ -1,5 +1,5 @@
 -- Rows of residues modulo p, one for each monomial of degree at most d, by rank. What the operations do, by rank. Ours.
-use Rattle.std.specs.Prelude.{◌≡◌, ◌≢◌, ℕ, ◌+◌, ◌*◌, ◌-◌, ◌%◌, ◌<◌, ◌≤◌, List, [], ◌∷◌, length, All, slice_index, slice_get, Some, cond, eqb}
+use Rattle.std.specs.Prelude.{◌≡◌, ◌≢◌, ℕ, ◌+◌, ◌*◌, ◌-◌, ◌%◌, ◌<◌, ◌≤◌, List, [], ◌∷◌, length, All, slice_index, slice_get, Some, ◌==◌, if◌then◌else◌}
 use Rattle.local_order.specs.Mono.{degree, mono_times, Divides}
 use Rattle.local_order.specs.Shape.{Shape, count}
 use Rattle.mono_rank.specs.Rank.{HasRank}
@@ -62,7 +62,7 @@ pub record SubtractsMultiple (p : ℕ) (T : Shape) (c a : ℕ) (g r s : List ℕ
 -- the coefficient that a list of terms has at rank r: that of the first term of this rank
 abbrev pub term_coef : List Term → ℕ → ℕ
 term_coef [] r = 0
-term_coef (t ∷ ts) r = cond (eqb t.rank r) t.coef (term_coef ts r)
+term_coef (t ∷ ts) r = if t.rank == r then t.coef else term_coef ts r
 
 -- the ranks of the terms rise and are below `places`
 pub record HasRisingRanks (places : ℕ) (ts : List Term) : Type 0 where

@@ -4,6 +4,7 @@ use Rattle.prime_field.specs.Prime.{InTable}
 use Rattle.local_order.specs.Shape.{Shape, count}
 use Rattle.mono_rank.specs.Laws.{numbering, rank_cofactor}
 use Rattle.ecart.specs.Choice.{no_summary, summary_at}
+use Rattle.sparse_poly.proofs.Sorted.{residues_of}
 use Rattle.trunc_row.specs.Rows.{IsRow}
 use Rattle.rank_algebra.specs.Vector.{Agree}
 use Rattle.mora_law.specs.Ring.{ranks_of_problem, generators_of}
@@ -17,11 +18,6 @@ pub set_poly-requires-clause-variables : goal.set_poly-requires-clause-variables
 set_poly-requires-clause-variables c =
     let w = generator_is c.args.problem.now c.args.table.now.variables c.in-Generator.g c.gens.result.now c.get.result.now c.gens.ensures.problem (ap (λ (T : Shape). T.variables) c.requires.shape) c.gens.ensures.value c.get.ensures in
     w.in_ring
-
-pub set_poly-requires-clause-written : goal.set_poly-requires-clause-written
-set_poly-requires-clause-written c =
-    let w = generator_is c.args.problem.now c.args.table.now.variables c.in-Generator.g c.gens.result.now c.get.result.now c.gens.ensures.problem (ap (λ (T : Shape). T.variables) c.requires.shape) c.gens.ensures.value c.get.ensures in
-    (c.args.problem.now.p, w.positive, w.canonical)
 
 pub sub_multiple_of-requires-clause-other : goal.sub_multiple_of-requires-clause-other
 sub_multiple_of-requires-clause-other c =
@@ -38,7 +34,7 @@ sub_multiple_of-requires-in-Pair-clause-other c =
 pub returns-in-Generator-clause-row : goal.returns-in-Generator-clause-row
 returns-in-Generator-clause-row c =
     let w = generator_is c.args.problem.now c.args.table.now.variables c.in-Generator.g c.gens.result.now c.get.result.now c.gens.ensures.problem (ap (λ (T : Shape). T.variables) c.requires.shape) c.gens.ensures.value c.get.ensures in
-    (c.set_poly.ensures c.args.problem.now.p w.positive w.canonical).row
+    (c.set_poly.ensures c.args.problem.now.p w.positive (residues_of _ _ _ w.canonical)).row
 
 pub returns-in-Generator-clause-start : goal.returns-in-Generator-clause-start
 returns-in-Generator-clause-start c =
@@ -48,7 +44,7 @@ returns-in-Generator-clause-start c =
     subst (λ i. Agree (ranks_of_problem P) (count c.args.table.now) (vector_of_row c.set_poly.new.self)
     (start_of (ranks_of_problem P) (generators_of P) (basis_in c.args.known.now.rows.list c.args.known.now.summaries.items) i)) (sym c.in-Generator.is)
     (generator_row P c.args.table.now c.in-Generator.g c.get.result.now.terms c.set_poly.new.self (omega (arith, c.gens.ensures.problem.some, (ap (λ (T : Shape). T.variables) c.requires.shape))) c.requires.shape w.is
-    (c.set_poly.ensures P.p w.positive w.canonical))
+    (c.set_poly.ensures P.p w.positive (residues_of _ _ _ w.canonical)))
 
 pub returns-in-Pair-clause-start : goal.returns-in-Pair-clause-start
 returns-in-Pair-clause-start c =

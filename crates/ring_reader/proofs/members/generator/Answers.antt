@@ -2,7 +2,7 @@ use Rattle.std.proofs.Common.{sym, ◌∙◌, ap, subst, ◌≡◌, length}
 use Rattle.std.proofs.lemmas.Result.{IfOk-weaker}
 use Rattle.sparse_poly.specs.Poly.{Polynomial, IsCanonical, HasDegreeAtMost, cut}
 use Rattle.sparse_poly.proofs.Cuts.{IsCanonical-cut, HasDegreeAtMost-cut}
-use Rattle.ring_reader.specs.Sound.{IsGenerator}
+use Rattle.sparse_poly.specs.Ideal.{IsGenerator}
 use Rattle.ring_reader.proofs.members.generator.Goals as goal
 
 pub returns-clause-valid : goal.returns-clause-valid

@@ -3,7 +3,7 @@ use Rattle.std.specs.Prelude.{All}
 use Rattle.script_tokens.specs.PlaceView.{place_of}
 use Rattle.script_grammar.specs.Statements.{members_from}
 use Rattle.ring_reader.specs.NamesView.{declarations_of, values_of}
-use Rattle.ring_reader.specs.Sound.{IsGenerator}
+use Rattle.sparse_poly.specs.Ideal.{IsGenerator}
 use Rattle.ring_reader.proofs.Generators.{MembersSoFar}
 use Rattle.ring_reader.proofs.members.members.Given as goal
 

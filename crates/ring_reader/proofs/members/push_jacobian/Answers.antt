@@ -3,7 +3,7 @@ use Rattle.std.specs.Prelude.{All}
 use Rattle.sparse_poly.specs.Poly.{Polynomial, in_variables, cut, derivative}
 use Rattle.sparse_poly.specs.Canonical.{canonical}
 use Rattle.ring_reader.specs.NamesView.{values_of}
-use Rattle.ring_reader.specs.Sound.{IsGenerator}
+use Rattle.sparse_poly.specs.Ideal.{IsGenerator}
 use Rattle.ring_reader.proofs.Handed.{All-push}
 use Rattle.ring_reader.proofs.Generators.{jacobian_go}
 use Rattle.ring_reader.proofs.members.push_jacobian.Goals as goal

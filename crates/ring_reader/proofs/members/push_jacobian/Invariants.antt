@@ -5,7 +5,7 @@ use Rattle.sparse_poly.specs.Poly.{cut, derivative}
 use Rattle.sparse_poly.specs.Canonical.{canonical}
 use Rattle.ring_reader.specs.Effects.{in_ring_of}
 use Rattle.ring_reader.specs.NamesView.{values_of}
-use Rattle.ring_reader.specs.Sound.{IsGenerator}
+use Rattle.sparse_poly.specs.Ideal.{IsGenerator}
 use Rattle.ring_reader.proofs.members.push_jacobian.Given as goal
 
 abbrev pub invariant-loop-i : goal.invariant-loop-i

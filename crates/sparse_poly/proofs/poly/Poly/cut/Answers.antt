@@ -1,7 +1,8 @@
-use Rattle.std.proofs.Common.{◌∙◌, ap, arith}
+use Rattle.std.proofs.Common.{◌∙◌, ap, arith, subst, sym}
 use Rattle.std.proofs.lemmas.List.{take_all}
-use Rattle.sparse_poly.proofs.Cuts.{cut_taken, cut_left_out, IsCanonical-cut}
-use Rattle.sparse_poly.proofs.Views.{own_terms}
+use Rattle.sparse_poly.proofs.Cuts.{cut_taken, cut_left_out}
+use Rattle.sparse_poly.proofs.Sorted.{IsSorted-cut, HasResidues-cut}
+use Rattle.sparse_poly.specs.Poly.{HasResidues}
 use Rattle.sparse_poly.proofs.poly.Poly.cut.Goals as goal
 use Rattle.sparse_poly.proofs.poly.Poly.cut.Goals.{then-degree+in_ok-push, else-degree}
 
@@ -11,7 +12,15 @@ loop-term-preserved c = elim c.if-degree.branch [
   | else-degree w ↦ ap (λ v. v.items) w.terms-is ∙ cut_left_out _ _ _ _ c.term-item.result c.loop-term-test.true c.term-item.is c.loop-term.invariant (omega (arith, w.if-degree.false, c.degree.ensures.value))
 ]
 
-pub returns-clause-canonical : goal.returns-clause-canonical
-returns-clause-canonical c p w =
-    rw (c.loop-term.invariant, take_all _ _ c.loop-term-test.false)
-    (IsCanonical-cut p _ _ _ (own_terms p _ _ _ c.self.view_is c.deref-term-items.ensures.value w))
+pub invariant_of-result : goal.invariant_of-result
+invariant_of-result c = (
+  c.self.invariant.0,
+  c.self.invariant.1,
+  rw (c.loop-term.invariant, take_all _ _ c.loop-term-test.false, c.deref-term-items.ensures.value)
+      (IsSorted-cut _ _ _ c.self.invariant.2),
+)
+
+pub returns-clause-residues : goal.returns-clause-residues
+returns-clause-residues c p r =
+    rw (c.loop-term.invariant, take_all _ _ c.loop-term-test.false, c.deref-term-items.ensures.value)
+    (HasResidues-cut p _ _ (subst (λ f. HasResidues p f.terms) (sym c.self.view_is) r))

@@ -1,6 +1,6 @@
 use Rattle.std.proofs.Common.{arith}
-use Rattle.mono_rank.proofs.Pascal.{product_low, count_goes, count_ends}
-use Rattle.mono_rank.proofs.build.monomial_count.Goals as goal
+use Rattle.local_order.proofs.Count.{product_low, count_goes, count_ends}
+use Rattle.local_order.proofs.counting.monomial_count.Goals as goal
 
 pub overflow_mul-count : goal.overflow_mul-count
 overflow_mul-count c = let l = product_low c.loop-k.k c.args.d c.loop-k.count c.from.result (omega arith) c.requires.low c.from.ensures c.loop-k.invariant in omega (arith, l)
