@@ -146,7 +146,10 @@ fn problems_from_outside(rt: HostRuntime) -> Result<(), Fail> {
             gens.push(poly(alloc, &seven, &terms)?)?;
         }
         let made = Problem::checked(*field, n, d, gens);
-        assert!(rt; made.is_some() == fits, "{n} variables, degree {d}, {copies} generators");
+        assert!(rt;
+            made.is_some() == fits,
+            "{n} variables, degree {d}, {copies} generators"
+        );
     }
     Ok(())
 }

@@ -40,10 +40,14 @@ returns-clause-canonical c =
     (other_terms _ _ _ _ _ _ c.self.view_is c.other.view_is c.requires.one_n c.deref.ensures.value (canonical_terms _ _ _ c.other.view_is c.other.invariant.2 c.requires.other)))))
 
 pub invariant_of-result : goal.invariant_of-result
-invariant_of-result c = (c.self.invariant.0, c.self.invariant.1, sorted_of c.args.field.now c.self.inside.n c.in_ok-terms.terms.items
+invariant_of-result c = (
+  c.self.invariant.0,
+  c.self.invariant.1,
+  sorted_of c.args.field.now c.self.inside.n c.in_ok-terms.terms.items
       (rw c.in_ok-terms.ensures
-    (IsCanonical-sum _ _ _ _
-    (own_terms _ _ _ _ c.self.view_is c.deref-2.ensures.value (canonical_terms _ _ _ c.self.view_is c.self.invariant.2 c.requires.own))
-    (rw (c.deref-3.ensures.value, c.in_ok-opposite.ensures)
-    (IsCanonical-scaled _ _ _ _ (positive _ c.prime.ensures.offered)
-    (other_terms _ _ _ _ _ _ c.self.view_is c.other.view_is c.requires.one_n c.deref.ensures.value (canonical_terms _ _ _ c.other.view_is c.other.invariant.2 c.requires.other)))))))
+      (IsCanonical-sum _ _ _ _
+      (own_terms _ _ _ _ c.self.view_is c.deref-2.ensures.value (canonical_terms _ _ _ c.self.view_is c.self.invariant.2 c.requires.own))
+      (rw (c.deref-3.ensures.value, c.in_ok-opposite.ensures)
+      (IsCanonical-scaled _ _ _ _ (positive _ c.prime.ensures.offered)
+      (other_terms _ _ _ _ _ _ c.self.view_is c.other.view_is c.requires.one_n c.deref.ensures.value (canonical_terms _ _ _ c.other.view_is c.other.invariant.2 c.requires.other)))))),
+)
