@@ -1,7 +1,7 @@
 //! Values in x and y that tests are written with.
 
 ghost use Rattle.std.specs.Prelude.{◌≡◌, length, IfOk};
-ghost use Rattle.sparse_poly.specs.Poly.{IsCanonical};
+ghost use Rattle.sparse_poly.specs.Poly.{HasResidues, IsCanonical};
 
 use local_order::Mono;
 use prime_field::Field;
@@ -59,9 +59,11 @@ pub fn term(written: &Written) -> Result<PolyTerm, Fail>
 }
 
 /// The polynomial with these terms.
+#[tactic(auto, using(sparse_poly::proofs::Sorted::residues_of))]
 pub fn poly(alloc: Global, field: &Field, terms: &[Written]) -> Result<Poly, Fail>
     ensures variables { IfOk result (λ f. f.n ≡ 2) }
     ensures canonical { IfOk result (λ f. IsCanonical field.now 2 f.terms) }
+    ensures residues { IfOk result (λ f. HasResidues field.now f.terms) }
 {
     let mut all = Vec::new(alloc);
     for written in terms {

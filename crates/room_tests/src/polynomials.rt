@@ -111,7 +111,7 @@ fn problems(rt: HostRuntime) -> Result<(), Fail> {
     let mut gens = Polys::new(alloc);
     gens.push(poly(alloc, &five, &[([1, 0], 1), ([2, 3], 1)])?.cut(alloc, 4)?)?;
     assert!(rt; five.prime() == 5);
-    let problem = Problem::new(five, 2, 4, gens);
+    let problem = Problem::checked(five, 2, 4, gens).ok_or("no problem")?;
     let copy = problem.copy(alloc)?;
     let numbers = [problem.field().prime(), problem.n(), problem.d()];
     let copied = [copy.field().prime(), copy.n(), copy.d()];
