@@ -9,16 +9,16 @@ use Rattle.std.proofs.Math.Seq.{take-append_seam}
 use Rattle.local_order.specs.Mono.{Divides}
 use Rattle.local_order.specs.Shape.{Shape, count}
 use Rattle.mono_rank.specs.Rank.{HasRank}
-use Rattle.mono_rank.specs.Cover.{IsMultiple, Covers, IsCorner}
+use Rattle.mono_rank.specs.Cover.{IsMultipleOfRanks, Covers, IsCorner}
 use Rattle.mono_rank.proofs.Walk.{walk}
 use Rattle.mono_rank.proofs.Ranks.{rank_small, rank_reached}
-use Rattle.corner_word.specs.Marks.{Covered, mark_at, marked_from, IsCoverOf, IsMarkedFrom, IsLeastMarked, IsKept}
+use Rattle.corner_word.specs.Marks.{Covered, mark_at, marked_from, IsCoverOf, IsMarkedFrom, IsLeastMarked, IsCoverKept}
 use Rattle.corner_word.proofs.Ranks.{marked_is}
 
 -- ---- marks and multiples
 -- the marks are those of the multiples of these leads
 pub record AreMarksOf (T : Shape) (leads : List ℕ) (marks : List Bool) : Type 0 where
-  pub each : (m : List ℕ) (r : ℕ) → HasRank T m r → IsTrue (mark_at marks r) ↔ IsMultiple T leads m
+  pub each : (m : List ℕ) (r : ℕ) → HasRank T m r → IsTrue (mark_at marks r) ↔ IsMultipleOfRanks T leads m
 
 -- then the cover that is shown is that of these leads
 pub cover_from : (T : Shape) (leads : List ℕ) (marks : List Bool) → AreMarksOf T leads marks → IsCoverOf leads (record { shape = T; multiples = marked_from 0 marks })
@@ -32,7 +32,7 @@ cover_to T leads marks c e C =
 
 -- ---- the corner
 -- the first rank that has only marks from it on is the corner
-pub corner_is : (T : Shape) (marks : List Bool) (w : ℕ) (c : Covered) (leads : List ℕ) → record { shape = T; multiples = marked_from 0 marks } ≡ c → IsKept T marks w →
+pub corner_is : (T : Shape) (marks : List Bool) (w : ℕ) (c : Covered) (leads : List ℕ) → record { shape = T; multiples = marked_from 0 marks } ≡ c → IsCoverKept T marks w →
     IsCoverOf leads c → IsCorner c.shape leads w
 corner_is T marks w c leads e K C = subst (λ (x : Covered). IsCorner x.shape leads w) e (record {
   covers = λ m r l h. (D.each m r h).0 (K.corner.marked.from r l (omega (arith, K.all, rank_small T m r h)));
@@ -62,7 +62,7 @@ corner_is T marks w c leads e K C = subst (λ (x : Covered). IsCorner x.shape le
 
 -- ---- no leads
 -- with no marks the corner is behind the last rank
-pub kept_first : (T : Shape) (w : ℕ) (marks : List Bool) → 1 ≤ T.variables → w ≡ count T → marks ≡ replicate w false → IsKept T marks w
+pub kept_first : (T : Shape) (w : ℕ) (marks : List Bool) → 1 ≤ T.variables → w ≡ count T → marks ≡ replicate w false → IsCoverKept T marks w
 kept_first T w marks some e f =
     let long : length marks ≡ w = ap length f ∙ length-replicate w false in
     record {
@@ -108,7 +108,7 @@ pub written_over : (l : ℕ) (t s : List Bool) → length t ≡ l → take l (t 
 written_over l t s e = subst (λ k. take k (t ++ drop (length t) s) ≡ t) e (take-append_seam t (drop (length t) s))
 
 -- the ranks that were marked stay so
-pub marked_still : (T : Shape) (s t : List Bool) (lead w : ℕ) → IsKept T s w → lead < count T → length t ≡ length s →
+pub marked_still : (T : Shape) (s t : List Bool) (lead w : ℕ) → IsCoverKept T s w → lead < count T → length t ≡ length s →
     MarksMultiples T s t lead → IsMarkedFrom t w
 marked_still T s t lead w K l e more = record {
   low = omega (arith, K.corner.marked.low);
@@ -118,7 +118,7 @@ marked_still T s t lead w K l e more = record {
 }
 
 -- the first rank that is found among the new marks is kept beside them
-pub kept_more : (T : Shape) (s t v : List Bool) (w u : ℕ) → IsKept T s w → length t ≡ length s → v ≡ t → IsLeastMarked v u → IsKept T v u
+pub kept_more : (T : Shape) (s t v : List Bool) (w u : ℕ) → IsCoverKept T s w → length t ≡ length s → v ≡ t → IsLeastMarked v u → IsCoverKept T v u
 kept_more T s t v w u K e f F = record { some = K.some; all = ap length f ∙ e ∙ K.all; corner = F }
 
 -- the marks of the multiples of one more lead make those of one more
@@ -129,11 +129,11 @@ cover_more T s t lead leads some l more C = record { each = λ m r h. (λ u. the
     has : HasRank T (walk T.variables lead) lead
     has = rank_reached T lead some l
 
-    there : (m : List ℕ) (r : ℕ) → HasRank T m r → IsTrue (mark_at s r) ⊎ Divides (walk T.variables lead) m → IsMultiple T (leads ++ lead ∷ []) m
-    there m r h (inl u) = let M : IsMultiple T leads m = (C.each m r h).0 u in (M.0, M.1, Contains-append_left leads (lead ∷ []) M.0 M.2, M.3, M.4)
+    there : (m : List ℕ) (r : ℕ) → HasRank T m r → IsTrue (mark_at s r) ⊎ Divides (walk T.variables lead) m → IsMultipleOfRanks T (leads ++ lead ∷ []) m
+    there m r h (inl u) = let M : IsMultipleOfRanks T leads m = (C.each m r h).0 u in (M.0, M.1, Contains-append_left leads (lead ∷ []) M.0 M.2, M.3, M.4)
     there m r h (inr D) = (lead, walk T.variables lead, Contains-push leads lead, has, D)
 
-    back : (m : List ℕ) (r : ℕ) → HasRank T m r → IsMultiple T (leads ++ lead ∷ []) m → IsTrue (mark_at t r)
+    back : (m : List ℕ) (r : ℕ) → HasRank T m r → IsMultipleOfRanks T (leads ++ lead ∷ []) m → IsTrue (mark_at t r)
     back m r h M = go (Contains-push_cases leads lead M.0 M.2)
       where
         go : Contains leads M.0 ⊎ (lead ≡ M.0) → IsTrue (mark_at t r)

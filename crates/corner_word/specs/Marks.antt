@@ -2,7 +2,7 @@
 use Rattle.std.specs.Prelude.{◌≡◌, ℕ, suc, ◌<◌, ◌≤◌, ◌↔◌, List, [], ◌∷◌, Bool, true, false, IsTrue, Contains, length, get_or}
 use Rattle.local_order.specs.Shape.{Shape, count}
 use Rattle.mono_rank.specs.Rank.{HasRank}
-use Rattle.mono_rank.specs.Cover.{IsMultiple}
+use Rattle.mono_rank.specs.Cover.{IsMultipleOfRanks}
 
 -- a cover is seen as the monomials that it is about, and the ranks of the multiples of its leads, rising
 pub record Covered : Type 0 where
@@ -11,7 +11,7 @@ pub record Covered : Type 0 where
 
 -- these are the leads that were added: the multiples are theirs
 pub record IsCoverOf (leads : List ℕ) (c : Covered) : Type 0 where
-  pub each : (m : List ℕ) (r : ℕ) → HasRank c.shape m r → Contains c.multiples r ↔ IsMultiple c.shape leads m
+  pub each : (m : List ℕ) (r : ℕ) → HasRank c.shape m r → Contains c.multiples r ↔ IsMultipleOfRanks c.shape leads m
 
 -- ---- what is kept
 -- the mark of a rank
@@ -35,7 +35,7 @@ pub record IsLeastMarked (marks : List Bool) (w : ℕ) : Type 0 where
   pub before : (k : ℕ) → suc k ≡ w → mark_at marks k ≡ false
 
 -- a mark for each monomial, and the corner beside them
-pub record IsKept (T : Shape) (marks : List Bool) (w : ℕ) : Type 0 where
+pub record IsCoverKept (T : Shape) (marks : List Bool) (w : ℕ) : Type 0 where
   pub some : 1 ≤ T.variables
   pub all : length marks ≡ count T
   pub corner : IsLeastMarked marks w

@@ -22,13 +22,13 @@ pub struct Cover {
 }
 
 impl Model for Cover {
-    ghost use Rattle.corner_word.specs.Marks.{Covered, marked_from, IsKept};
+    ghost use Rattle.corner_word.specs.Marks.{Covered, marked_from, IsCoverKept};
 
     ghost Value = { Covered };
 
     ghost view = { λ c. record { shape = record { variables = c.n; degree = c.d }; multiples = marked_from 0 c.marks.items } };
 
-    ghost invariant = { λ c. IsKept (record { variables = c.n; degree = c.d }) c.marks.items c.corner };
+    ghost invariant = { λ c. IsCoverKept (record { variables = c.n; degree = c.d }) c.marks.items c.corner };
 }
 
 impl Cover {

@@ -3,3 +3,4 @@ pub mod Order
 pub mod Stored
 pub mod Count
 pub mod Shape
+pub mod Limits

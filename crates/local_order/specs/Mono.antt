@@ -1,9 +1,10 @@
 -- A monomial is the list of its exponents, one for each variable.
 use Rattle.std.specs.Prelude.{◌≡◌, ℕ, ◌+◌, ◌-◌, ◌≤◌, max, List, [], ◌∷◌, length, replicate, All, Bool, true, false, ◌&&◌, ◌||◌, nat_le, ◌==◌}
+use Rattle.local_order.specs.Limits.{max_exponent, max_variables}
 
 -- one to eight exponents, each at most 1,000
 abbrev pub IsWithinLimits : List ℕ → Type 0
-IsWithinLimits a' = (1 ≤ length a') × (length a' ≤ 8) × All (λ e. e ≤ 1000) a'
+IsWithinLimits a' = (1 ≤ length a') × (length a' ≤ max_variables) × All (λ e. e ≤ max_exponent) a'
 
 -- the sum of the exponents
 abbrev pub degree : List ℕ → ℕ

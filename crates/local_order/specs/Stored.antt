@@ -1,5 +1,6 @@
 -- How a monomial is stored: n exponents before zeros, and their sum.
 use Rattle.std.proofs.Common.{◌≡◌, ℕ, ◌-◌, ◌<◌, ◌≤◌, List, ◌++◌, length, take, replicate, get_or, All, ap, sym, ◌∙◌, ⊎_elim, arith}
+use Rattle.local_order.specs.Limits.{max_exponent, max_variables}
 use Rattle.std.proofs.lemmas.Bool.{cases_lt}
 use Rattle.std.proofs.lemmas.List.{length-take-le, length-append, length-replicate, get_or_append_left, get_or-append_right, get_or-take, get_or-replicate, get_or_past, ext_get_or}
 use Rattle.local_order.specs.Mono.{degree}
@@ -8,9 +9,9 @@ use Rattle.local_order.specs.Mono.{degree}
 pub record IsStored (exps : List ℕ) (n total : ℕ) : Type 0 where
   pub full : length exps ≡ 8
   pub some : 1 ≤ n
-  pub few : n ≤ 8
+  pub few : n ≤ max_variables
   pub rest : (k : ℕ) → n ≤ k → get_or exps k 0 ≡ 0
-  pub small : All (λ e. e ≤ 1000) exps
+  pub small : All (λ e. e ≤ max_exponent) exps
   pub total_is : degree (take n exps) ≡ total
 
 -- the number of exponents in front

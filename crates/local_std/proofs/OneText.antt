@@ -49,7 +49,7 @@ one_lines letters p word P (TooSmall missing) (TooSmall other) x y = ap (small_l
 one_block : (s : Script) (index : ℕ) (c : Command) (text other : List ℕ) → IsBlock s index c text → IsBlock s index c other → text ≡ other
 one_block s index c text other x y =
     x.spelled
-    ∙ ap (λ l. heading index c.word c.name ++ l) (one_lines s.letters (characteristic_of c.subject) c.word (problem_of s c) x.answer y.answer x.answers y.answers)
+    ∙ ap (λ l. heading index c.word c.name ++ l) (one_lines s.names (characteristic_of c.subject) c.word (problem_of s c) x.answer y.answer x.answers y.answers)
     ∙ sym y.spelled
 
 -- so commands have one text

@@ -15,7 +15,7 @@ use Rattle.text_out.specs.Block.{block}
 -- polynomial are still to come, and are none yet.
 abbrev pub problem_in : Script → Subject → Problem
 problem_in s (Ideal P) = P
-problem_in s (Function f) = record { p = s.field; n = length s.letters; d = s.d; gens = [] }
+problem_in s (Function f) = record { p = s.field; n = length s.names; d = s.d; gens = [] }
 
 abbrev pub problem_of : Script → Command → Problem
 problem_of s c = problem_in s c.subject
@@ -30,7 +30,7 @@ IsAnswerOf P (answers.TooSmall missing) = IsFirstMissing P missing
 pub record IsBlock (s : Script) (index : ℕ) (c : Command) (text : List ℕ) : Type 0 where
   pub answer : Answer
   pub answers : IsAnswerOf (problem_of s c) answer
-  pub spelled : text ≡ block index s.letters c answer
+  pub spelled : text ≡ block index s.names c answer
 
 -- the blocks of commands one after another, numbered from index on
 abbrev pub AreBlocks : Script → ℕ → List Command → List ℕ → Type 0

@@ -1,5 +1,6 @@
 -- Which status and which texts are due, and what a call leaves.
 use Rattle.std.specs.Prelude.{◌≡◌, ℕ, ◌≤◌, ◌⊎◌, List, [], length, take, Some}
+use Rattle.script_grammar.specs.Limits.{max_script}
 use Rattle.script_grammar.specs.Trees.{Tree}
 use Rattle.script_grammar.specs.Valid.{IsScript}
 use Rattle.script_grammar.specs.Meaning.{meaning}
@@ -16,15 +17,15 @@ use Rattle.local_std.specs.Lent.{Lent, IsUntouched, HasFailed, HasNoFault, HasGi
 -- ---- each request
 -- the greatest number of bytes that it takes
 abbrev pub limit_of : Request → ℕ
-limit_of solve = 1048576
+limit_of solve = max_script
 
 -- for this input, this status, this text for `out` and this text for `cert` are due
 abbrev pub RequestDue : Request → List ℕ → Status → List ℕ → List ℕ → Type 0
 RequestDue solve input status text proof = ScriptDue Solves (limit_of solve) input status text proof
 
 -- it has read this input
-abbrev pub Reads : {S : Type 0} → Request → Lent S → List ℕ → Type 0
-Reads solve source input = HasGiven source (limit_of solve) input
+abbrev pub HasRead : {S : Type 0} → Request → Lent S → List ℕ → Type 0
+HasRead solve source input = HasGiven source (limit_of solve) input
 
 -- the source failed while it read
 abbrev pub FailsToRead : {S : Type 0} → Request → Lent S → Type 0
@@ -46,7 +47,7 @@ Admits solve input = (length input ≤ limit_of solve) × (tree : Tree) × IsScr
 -- the request has read some input, and this is due for it
 pub record Served {S : Type 0} (request : Request) (source : Lent S) (status : Status) (text proof : List ℕ) : Type 0 where
   pub input : List ℕ
-  pub reads : Reads request source input
+  pub reads : HasRead request source input
   pub is_due : RequestDue request input status text proof
 
 -- the words ask for nothing, and nothing was read

@@ -96,13 +96,13 @@ fn block_with(
     requires built { IsBuilt command.now.word }
     requires subject { IsIdeal command.now.subject }
     requires name { IsAscii command.now.name }
-    requires ring { IsInRing (characteristic_of command.now.subject) (length script.now.letters) answer.now }
+    requires ring { IsInRing (characteristic_of command.now.subject) (length script.now.names) answer.now }
     requires value { IsAnswerOf (problem_of script.now command.now) answer.now }
     ensures text { IfOk result (λ b. IsBlock script.now index command.now (string_bytes b.text)) }
     ensures fits { IfOk result (λ b. OnTrue b.fits (Fits (problem_of script.now command.now))) }
     ensures small { IfOk result (λ b. OnFalse b.fits (Fits (problem_of script.now command.now) → ⊥)) }
 {
-    let text = block_text(alloc, index, &script.letters, command, answer)?;
+    let text = block_text(alloc, index, &script.names, command, answer)?;
     Ok(Blocks {
         fits: is_fitting(answer),
         text,

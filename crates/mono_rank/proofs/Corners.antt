@@ -11,7 +11,7 @@ use Rattle.rank_algebra.specs.Division.{IsMultiple as IsMultipleByRank, IsCover}
 use Rattle.rank_algebra.proofs.Corner.{corner_is as corner_covers, corner_least}
 use Rattle.mono_rank.specs.Rank.{HasRank, mono_of_rank}
 use Rattle.mono_rank.specs.Laws.{numbering, rank_times}
-use Rattle.mono_rank.specs.Cover.{IsMultiple, Covers, IsCorner, with_leads, ranks_in, corner_of_leads}
+use Rattle.mono_rank.specs.Cover.{IsMultipleOfRanks, Covers, IsCorner, with_leads, ranks_in, corner_of_leads}
 use Rattle.mono_rank.proofs.Ranks.{rank_small}
 use Rattle.mono_rank.proofs.ByRank.{rank-mono_of_rank}
 use Rattle.mono_rank.proofs.Products.{IsWithin, within_of_rank}
@@ -27,7 +27,7 @@ module _ (T : Shape) (some : 1 ≤ T.variables) where
   L = ranks_have_laws T 1 (λ c. 0) some (omega arith) (λ c n. absurd (n (mod_one c)))
 
   -- a multiple by rank is one of the monomial of the lead
-  multiple_to : (leads m : List ℕ) (r : ℕ) → HasRank T m r → IsMultipleByRank (ranks_in T) (with_leads leads) r → IsMultiple T leads m
+  multiple_to : (leads m : List ℕ) (r : ℕ) → HasRank T m r → IsMultipleByRank (ranks_in T) (with_leads leads) r → IsMultipleOfRanks T leads m
   multiple_to leads m r h x =
       let l : ℕ = get_or leads x.place 0 in
       let small : r < count T = rank_small T m r h in
@@ -43,7 +43,7 @@ module _ (T : Shape) (some : 1 ≤ T.variables) where
       )
 
   -- and a multiple of the monomial is one by rank
-  multiple_from : (leads m : List ℕ) (r : ℕ) → HasRank T m r → IsMultiple T leads m → IsMultipleByRank (ranks_in T) (with_leads leads) r
+  multiple_from : (leads m : List ℕ) (r : ℕ) → HasRank T m r → IsMultipleOfRanks T leads m → IsMultipleByRank (ranks_in T) (with_leads leads) r
   multiple_from leads m r h (l, k, (j, jl, e), b, d) =
       let q = (quotient_of_ranks T k m l r b h).0 d in
       let at : get_or leads j 0 ≡ l = get_or_default leads j 0 l jl ∙ e in

@@ -8,12 +8,12 @@ use Rattle.mono_rank.specs.Rank.{HasRank}
 use Rattle.mono_rank.specs.Laws.{numbering, ranks_of}
 
 -- a lead divides m
-abbrev pub IsMultiple : Shape → List ℕ → List ℕ → Type 0
-IsMultiple T leads m = (l : ℕ) × (k : List ℕ) × Contains leads l × HasRank T k l × Divides k m
+abbrev pub IsMultipleOfRanks : Shape → List ℕ → List ℕ → Type 0
+IsMultipleOfRanks T leads m = (l : ℕ) × (k : List ℕ) × Contains leads l × HasRank T k l × Divides k m
 
 -- each monomial of a rank from w on is a multiple of a lead (a rank is always below the number of monomials)
 abbrev pub Covers : Shape → List ℕ → ℕ → Type 0
-Covers T leads w = (m : List ℕ) (r : ℕ) → w ≤ r → HasRank T m r → IsMultiple T leads m
+Covers T leads w = (m : List ℕ) (r : ℕ) → w ≤ r → HasRank T m r → IsMultipleOfRanks T leads m
 
 -- w is the least such rank: the number of monomials where the last one is no multiple, and 0 where 1 is a lead
 pub record IsCorner (T : Shape) (leads : List ℕ) (w : ℕ) : Type 0 where

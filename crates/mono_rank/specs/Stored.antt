@@ -1,5 +1,6 @@
 -- What a table keeps.
 use Rattle.std.specs.Prelude.{◌≡◌, ℕ, suc, ◌+◌, ◌*◌, ◌<◌, ◌≤◌, List, length, get_or}
+use Rattle.local_order.specs.Limits.{max_degree, max_monomials, max_variables}
 use Rattle.local_order.specs.Shape.{Shape, count}
 use Rattle.mono_rank.specs.Rank.{HasRank, fewer, mono_at}
 
@@ -15,9 +16,9 @@ pub record ListsRanks (T : Shape) (s : List (List ℕ)) : Type 0 where
 -- the limits of a table
 pub record HasLimits (T : Shape) : Type 0 where
   pub some : 1 ≤ T.variables
-  pub few : T.variables ≤ 8
-  pub low : T.degree ≤ 255
-  pub small : count T ≤ 4096
+  pub few : T.variables ≤ max_variables
+  pub low : T.degree ≤ max_degree
+  pub small : count T ≤ max_monomials
 
 -- its monomials, and the rows 0 to d + 1 of numbers
 pub record IsTable (T : Shape) (s : List (List ℕ)) (c : List ℕ) : Type 0 where

@@ -1,6 +1,7 @@
 //! What a table is made of: the monomials in falling order, and the numbers of monomials.
 
 ghost use Rattle.std.specs.Prelude.{◌≡◌, ◌+◌, ◌*◌, ◌<◌, ◌≤◌, length, IfOk};
+ghost use Rattle.local_order.specs.Limits.{max_degree, max_exponent, max_variables};
 ghost use Rattle.local_order.specs.Mono.{degree, IsWithinLimits};
 ghost use Rattle.local_order.specs.Count.{monomial_count as number_of_monomials};
 ghost use Rattle.mono_rank.specs.Stored.{HasCounts, ListsRanks};
@@ -11,7 +12,7 @@ use std::alloc::{AllocError, Global};
 
 /// The numbers of monomials below each degree up to `d` + 1, in one to eight variables.
 pub(crate) fn counts_below(alloc: Global, d: u32) -> Result<Vec<u64>, AllocError>
-    requires { d ≤ 255 }
+    requires { d ≤ max_degree }
     ensures rows { IfOk result (λ v. length v.items ≡ 8 * (d + 2)) }
     ensures counts { IfOk result (λ v. HasCounts v.items) }
 {
@@ -29,8 +30,8 @@ pub(crate) fn counts_below(alloc: Global, d: u32) -> Result<Vec<u64>, AllocError
 /// The monomials in `n` variables of degree at most `d`, the greatest first.
 pub(crate) fn falling(alloc: Global, n: u32, d: u32, count: u32) -> Result<Vec<Mono>, AllocError>
     requires some { 1 ≤ n }
-    requires few { n ≤ 8 }
-    requires low { d ≤ 255 }
+    requires few { n ≤ max_variables }
+    requires low { d ≤ max_degree }
     requires count { count ≡ number_of_monomials n d }
     ensures { IfOk result (λ v. ListsRanks (record { variables = n; degree = d }) v.items) }
 {
@@ -55,7 +56,7 @@ fn monomial(exps: &[u16]) -> Mono
 /// and what is left of it goes to the front. The last monomial of a degree is followed by the first of the next degree.
 fn go_on(exps: &mut [u16])
     requires some { 1 ≤ length exps.old }
-    requires small { degree exps.old ≤ 1000 }
+    requires small { degree exps.old ≤ max_exponent }
     ensures { IsNext exps.old exps.new }
 {
     let last = exps.len() - 1;

@@ -1,6 +1,7 @@
 //! The rank of a monomial, from numbers of monomials.
 
 ghost use Rattle.std.specs.Prelude.{◌≡◌, ◌+◌, ◌*◌, ◌<◌, ◌≤◌, length};
+ghost use Rattle.local_order.specs.Limits.{max_degree, max_monomials};
 ghost use Rattle.local_order.specs.Mono.{degree};
 ghost use Rattle.local_order.specs.Count.{monomial_count};
 ghost use Rattle.mono_rank.specs.Rank.{rank_of};
@@ -16,8 +17,8 @@ use local_order::Mono;
 /// have a degree below that of `m` in them.
 pub(crate) fn place_of(counts: &[u64], d: u32, m: &Mono) -> u32
     requires low { degree m.now ≤ d }
-    requires bound { d ≤ 255 }
-    requires small { monomial_count (length m.now) d ≤ 4096 }
+    requires bound { d ≤ max_degree }
+    requires small { monomial_count (length m.now) d ≤ max_monomials }
     requires rows { length counts.now ≡ 8 * (d + 2) }
     requires counts { HasCounts counts.now }
     ensures { result ≡ rank_of (record { variables = length m.now; degree = d }) m.now }

@@ -1,6 +1,7 @@
 //! Tables of ranks.
 
 ghost use Rattle.std.specs.Prelude.{◌≡◌, ℕ, List, ◌+◌, ◌<◌, ◌≤◌, ◌↔◌, length, IsTrue, MatchOption, MatchResult};
+ghost use Rattle.local_order.specs.Limits.{max_degree, max_variables};
 ghost use Rattle.local_order.specs.Mono.{degree, mono_times, Divides};
 ghost use Rattle.local_order.specs.Count.{monomial_count};
 ghost use Rattle.local_order.specs.Shape.{Shape, count};
@@ -52,8 +53,8 @@ impl RankTable {
     /// The table of the monomials in `n` variables of degree at most `d`.
     pub fn new(alloc: Global, n: u32, d: u32) -> Result<RankTable, RankError>
         requires some { 1 ≤ n }
-        requires few { n ≤ 8 }
-        requires low { d ≤ 255 }
+        requires few { n ≤ max_variables }
+        requires low { d ≤ max_degree }
         ensures { MatchResult result
             (λ t. (t ≡ record { variables = n; degree = d }) × (monomial_count n d ≤ MAX_MONOMIALS))
             (IsRefusal n d) }

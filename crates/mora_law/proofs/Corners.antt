@@ -7,7 +7,7 @@ use Rattle.local_order.specs.Order.{IsAbove}
 use Rattle.sparse_poly.specs.Shape.{shape_of}
 use Rattle.mono_rank.specs.Rank.{HasRank, rank_of, fewer}
 use Rattle.mono_rank.specs.Laws.{IsNumbering}
-use Rattle.mono_rank.specs.Cover.{IsMultiple as IsMultipleOfLead, Covers, IsCorner}
+use Rattle.mono_rank.specs.Cover.{IsMultipleOfRanks, Covers, IsCorner}
 use Rattle.mono_rank.proofs.Ranks.{rank_small}
 use Rattle.mono_rank.proofs.Degrees.{top_rank, rank_top}
 use Rattle.sparse_poly.specs.Ideal.{Problem, IsLeadOfIdeal, Fits}
@@ -44,7 +44,7 @@ module _ (P : Problem) (h : IsAdmissible P) (entries : List Entry) (are_monic : 
   small k l = omega (arith, are_monic.small k l, ranks_count P)
 
   -- multiples by rank are multiples of the leads that have these ranks
-  pub multiple_to : (m : List ℕ) (r : ℕ) → HasRank (shape_of P) m r → IsMultiple (ranks_of_problem P) (basis_of entries) r → IsMultipleOfLead (shape_of P) ranks m
+  pub multiple_to : (m : List ℕ) (r : ℕ) → HasRank (shape_of P) m r → IsMultiple (ranks_of_problem P) (basis_of entries) r → IsMultipleOfRanks (shape_of P) ranks m
   multiple_to m r k x = (
     (basis_of entries).lead x.place,
     (numbering_of P).mono ((basis_of entries).lead x.place),
@@ -54,7 +54,7 @@ module _ (P : Problem) (h : IsAdmissible P) (entries : List Entry) (are_monic : 
   )
 
   -- and the other way round
-  pub multiple_from : (m : List ℕ) (r : ℕ) → HasRank (shape_of P) m r → IsMultipleOfLead (shape_of P) ranks m → IsMultiple (ranks_of_problem P) (basis_of entries) r
+  pub multiple_from : (m : List ℕ) (r : ℕ) → HasRank (shape_of P) m r → IsMultipleOfRanks (shape_of P) ranks m → IsMultiple (ranks_of_problem P) (basis_of entries) r
   multiple_from m r k (l, a, (j, jl, g), b, factor) =
       let q = multiple_by_rank P h a m b.in_ring b.low k.in_ring k.low factor in
       let jn : j < length entries = omega (arith, jl, length-map entries (λ e. lead_rank e.terms)) in
@@ -89,7 +89,7 @@ module _ (P : Problem) (h : IsAdmissible P) (entries : List Entry) (legal : Lega
   corner_leads = corner_is_of_leads P h entries (monic P h entries legal)
 
   -- a monomial is a lead of the ideal exactly where it is a multiple of a lead
-  pub lead_is_multiple : (m : List ℕ) (r : ℕ) → HasRank (shape_of P) m r → IsLeadOfIdeal P m ↔ IsMultipleOfLead (shape_of P) (map (λ e. lead_rank e.terms) entries) m
+  pub lead_is_multiple : (m : List ℕ) (r : ℕ) → HasRank (shape_of P) m r → IsLeadOfIdeal P m ↔ IsMultipleOfRanks (shape_of P) (map (λ e. lead_rank e.terms) entries) m
   lead_is_multiple m r k = (
     λ j. multiple_to P h entries are_monic m r k (subst (IsMultiple (ranks_of_problem P) (basis_of entries)) at (only_multiples (ranks_of_problem P) (ranks_are P h) (generators_of P) entries legal (settled_by_rank P h entries legal settled) _ ((lead_by_rank P h m k.in_ring k.low).0 j))),
     λ x. (lead_by_rank P h m k.in_ring k.low).1 (subst (IsLeadOfSpan (ranks_of_problem P) (generators_of P)) (sym at) (all_multiples (ranks_of_problem P) (ranks_are P h) (generators_of P) entries legal r small_rank (multiple_from P h entries are_monic m r k x))),

@@ -1,6 +1,7 @@
 //! What one worker computes.
 
 ghost use Rattle.std.specs.Prelude.{◌≤◌};
+ghost use Rattle.local_order.specs.Limits.{max_degree};
 
 use crate::problems::{Written, problem};
 use entry_code::{Entry, Item, Reading, Reads, Term, Terms};
@@ -12,7 +13,7 @@ use std::test::Fail;
 /// The computation for these generators in x and y.
 fn run(alloc: Global, d: u32, gens: &[Written]) -> Result<Finished, Fail>
     requires some { 1 ≤ d }
-    requires low { d ≤ 255 }
+    requires low { d ≤ max_degree }
 {
     let table = RankTable::new(alloc, 2, d)?;
     let problem = problem(alloc, &table, 2, d, gens)?;

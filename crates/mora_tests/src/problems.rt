@@ -1,6 +1,7 @@
 //! Problems that tests are written with, modulo 32003.
 
 ghost use Rattle.std.specs.Prelude.{◌≡◌, ℕ, ◌≤◌, ◌↔◌, All, IsTrue, IfOk};
+ghost use Rattle.local_order.specs.Limits.{max_variables};
 ghost use Rattle.sparse_poly.specs.Poly.{IsCanonical, HasDegreeAtMost};
 
 use local_order::Mono;
@@ -23,7 +24,7 @@ pub fn field() -> Result<Field, Fail>
 /// The polynomial with these terms.
 fn poly(alloc: Global, field: &Field, n: u32, d: u32, terms: Written) -> Result<Poly, Fail>
     requires some { 1 ≤ n }
-    requires few { n ≤ 8 }
+    requires few { n ≤ max_variables }
     ensures variables { IfOk result (λ f. f.n ≡ n) }
     ensures canonical { IfOk result (λ f. IsCanonical field.now n f.terms) }
     ensures low { IfOk result (λ f. HasDegreeAtMost d f.terms) }

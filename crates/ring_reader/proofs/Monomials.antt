@@ -8,7 +8,7 @@ use Rattle.script_grammar.specs.Steps.{◌>>=◌}
 use Rattle.script_grammar.specs.Statements.{factor_at, factors_at, factor_degree, degree_of}
 use Rattle.std.specs.Result.{IsErrAnd}
 use Rattle.std.proofs.lemmas.Result.{err_from_is_err_and}
-use Rattle.script_tokens.specs.Reads.{Reads}
+use Rattle.script_tokens.specs.Reads.{ReadsAs}
 use Rattle.ring_reader.specs.Gives.{meant}
 use Rattle.ring_reader.specs.Capped.{capped}
 use Rattle.ring_reader.proofs.Loops.{meant_ok}
@@ -28,7 +28,7 @@ refused_meant f e (Ok x) h = absurd cc
 refused_meant f e (Err x) h = cc
 
 -- What failed with a refusal reads that refusal.
-pub reads_failed : {X Y : Type 0} (view : X → Y) (r : Result X Refusal) (e : Refusal) (read : Result Y Refusal) → IsErrAnd r (λ x. x ≡ e) → read ≡ Err e → Reads view r read
+pub reads_failed : {X Y : Type 0} (view : X → Y) (r : Result X Refusal) (e : Refusal) (read : Result Y Refusal) → IsErrAnd r (λ x. x ≡ e) → read ≡ Err e → ReadsAs view r read
 reads_failed view r e read h f = let p = err_from_is_err_and r h in rw (p.1, p.2) f
 
 -- The sum of capped degrees, capped, is the capped sum.

@@ -1,5 +1,7 @@
 -- What holds of each script that is read: its commands speak of one ring and one degree, within the limits.
 use Rattle.std.specs.Prelude.{◌≡◌, ℕ, ◌+◌, ◌≤◌, true, false, Bool, length, All}
+use Rattle.local_order.specs.Limits.{max_degree}
+use Rattle.script_grammar.specs.Limits.{max_commands}
 use Rattle.std.specs.Str.{IsAscii}
 use Rattle.prime_field.specs.Prime.{InTable}
 use Rattle.sparse_poly.specs.Letters.{AreLetters}
@@ -21,13 +23,13 @@ abbrev pub IsCommandIn : ℕ → ℕ → ℕ → Command → Type 0
 IsCommandIn p n d c = IsAscii c.name × IsSubject p n d (is_on_poly c.word) c.subject
 
 abbrev pub BelongsTo : Script → Command → Type 0
-BelongsTo s c = IsCommandIn s.field (length s.letters) s.d c
+BelongsTo s c = IsCommandIn s.field (length s.names) s.d c
 
 pub record IsCoherent (s : Script) : Type 0 where
   pub field : InTable s.field
-  pub letters : AreLetters s.letters
+  pub letters : AreLetters s.names
   pub some : 1 ≤ s.d
-  pub low : s.d ≤ 255
+  pub low : s.d ≤ max_degree
   pub asked : 1 ≤ length s.commands
-  pub few : length s.commands ≤ 64
+  pub few : length s.commands ≤ max_commands
   pub belong : All (BelongsTo s) s.commands

@@ -24,7 +24,7 @@ abbrev pub statements_part : RingValue → ℕ → Place → Result (List Comman
 statements_part r d t = statements_at (suc t.left) (no_names r) 0 [] t >>= λ statements. Ok (statements_meaning (no_values r d) statements)
 
 abbrev pub script_value : RingValue → ℕ → List Command → Script
-script_value r d commands = record { letters = r.letters; field = r.prime; d = d; commands = commands }
+script_value r d commands = record { names = r.letters; field = r.prime; d = d; commands = commands }
 
 -- the whole script
 abbrev pub script_parts : Place → Result Script Refusal

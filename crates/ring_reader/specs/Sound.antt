@@ -1,5 +1,6 @@
 -- Which values belong to a ring and its noether degree.
 use Rattle.std.specs.Prelude.{◌≡◌, ℕ, ◌+◌, ◌≤◌, length, All}
+use Rattle.local_order.specs.Limits.{max_degree, max_generators, max_monomials}
 use Rattle.prime_field.specs.Prime.{InTable}
 use Rattle.local_order.specs.Count.{monomial_count}
 use Rattle.sparse_poly.specs.Letters.{AreLetters}
@@ -22,16 +23,16 @@ pub record IsSound (names : Names) : Type 0 where
   pub prime : InTable names.field
   pub letters : AreLetters names.letters
   pub some : 1 ≤ names.d
-  pub low : names.d ≤ 255
-  pub few : monomial_count (length names.letters) names.d ≤ 4096
+  pub low : names.d ≤ max_degree
+  pub few : monomial_count (length names.letters) names.d ≤ max_monomials
   pub polys : All (λ (f : NamedPoly). IsValue names.field (length names.letters) f.value) names.polys.now
   pub polys_low : All (λ (f : NamedPoly). HasDegreeAtMost (names.d + 1) f.value.terms) names.polys.now
   pub ideals : All (λ (i : NamedIdeal). All (IsGenerator names.field (length names.letters) names.d) i.gens) names.ideals.now
-  pub ideals_few : All (λ (i : NamedIdeal). length i.gens ≤ 64) names.ideals.now
+  pub ideals_few : All (λ (i : NamedIdeal). length i.gens ≤ max_generators) names.ideals.now
 
 -- what a statement declares or asks belongs to the ring and the degree, and an ideal has at most 64 generators
 abbrev pub IsSoundEffect : ℕ → ℕ → ℕ → Effect → Type 0
 IsSoundEffect p n d effects.Nothing = Unit {0}
 IsSoundEffect p n d (effects.Poly f) = IsValue p n f.value × HasDegreeAtMost (d + 1) f.value.terms
-IsSoundEffect p n d (effects.Ideal i) = All (IsGenerator p n d) i.gens × (length i.gens ≤ 64)
+IsSoundEffect p n d (effects.Ideal i) = All (IsGenerator p n d) i.gens × (length i.gens ≤ max_generators)
 IsSoundEffect p n d (effects.Command c) = IsCommandIn p n d c

@@ -4,7 +4,7 @@ ghost use Rattle.std.specs.Prelude.{◌≡◌, ◌≤◌, ◌<◌, ◌-◌, List
 ghost use Rattle.std.specs.Str.{IsAscii};
 ghost use Rattle.sparse_poly.specs.Poly.{Poly as Terms};
 ghost use Rattle.script_tokens.specs.PlaceView.{place_of};
-ghost use Rattle.script_tokens.specs.Reads.{Reads};
+ghost use Rattle.script_tokens.specs.Reads.{ReadsAs};
 ghost use Rattle.script_grammar.specs.Words.{is_one_of};
 ghost use Rattle.script_grammar.specs.Meaning.{Named, value_in};
 ghost use Rattle.script_grammar.specs.Statements.{clashes as clashes_with, new_name_at, name_among, argument_at};
@@ -86,7 +86,7 @@ fn clashes(names: &Names, word: &[u8]) -> bool
 /// A name that is declared.
 #[tactic(auto, unfolding(script_grammar::specs::Statements::new_name_at))]
 pub(crate) fn new_name<'a>(names: &Names, here: Place<'a>) -> Result<(&'a [u8], Place<'a>), Refusal>
-    ensures reads { Reads (λ x. (x.0.now, place_of x.1)) result (new_name_at (declarations_of names.now) (place_of here.entry)) }
+    ensures reads { ReadsAs (λ x. (x.0.now, place_of x.1)) result (new_name_at (declarations_of names.now) (place_of here.entry)) }
     ensures ascii { IfOk result (λ x. IsAscii x.0.now) }
     ensures shorter { IfOk result (λ x. x.1.left < here.entry.left) }
 {
@@ -108,7 +108,7 @@ pub(crate) fn known<'n, 'a, T: Declared>(
     all: &'n [T],
     here: Place<'a>,
 ) -> Result<(&'n T, Place<'a>), Refusal>
-    ensures reads { Reads (λ x. ((T.seen x.0.now).name, place_of x.1)) result (name_among (names_in T.seen all.now) (place_of here.entry)) }
+    ensures reads { ReadsAs (λ x. ((T.seen x.0.now).name, place_of x.1)) result (name_among (names_in T.seen all.now) (place_of here.entry)) }
     ensures value { IfOk result (λ x. (other : T.Value) → value_in (map T.seen all.now) other (T.seen x.0.now).name ≡ (T.seen x.0.now).value) }
     ensures there { IfOk result (λ x. Contains all.now x.0.now) }
     ensures ascii { IfOk result (λ x. IsAscii (T.seen x.0.now).name) }
@@ -129,7 +129,7 @@ pub(crate) fn argument<'n, 'a, T: Declared>(
     all: &'n [T],
     here: Place<'a>,
 ) -> Result<(&'n T, Place<'a>), Refusal>
-    ensures reads { Reads (λ x. ((T.seen x.0.now).name, place_of x.1)) result (argument_at (names_in T.seen all.now) (place_of here.entry)) }
+    ensures reads { ReadsAs (λ x. ((T.seen x.0.now).name, place_of x.1)) result (argument_at (names_in T.seen all.now) (place_of here.entry)) }
     ensures value { IfOk result (λ x. (other : T.Value) → value_in (map T.seen all.now) other (T.seen x.0.now).name ≡ (T.seen x.0.now).value) }
     ensures there { IfOk result (λ x. Contains all.now x.0.now) }
     ensures ascii { IfOk result (λ x. IsAscii (T.seen x.0.now).name) }

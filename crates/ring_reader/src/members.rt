@@ -1,6 +1,7 @@
 //! The members of an ideal, read to its generators.
 
 ghost use Rattle.std.specs.Prelude.{◌≡◌, ◌<◌, ◌≤◌, ◌-◌, ◌++◌, true, length, All, IfOk, OnOk, Err};
+ghost use Rattle.local_order.specs.Limits.{max_generators};
 ghost use Rattle.sparse_poly.specs.Poly.{cut};
 ghost use Rattle.script_tokens.specs.PlaceView.{place_of};
 ghost use Rattle.script_grammar.specs.Tokens.{Place as Lexed};
@@ -94,11 +95,11 @@ fn member<'a>(
     here: Place<'a>,
 ) -> Result<Place<'a>, Stop>
     requires sound { IsSound names.now }
-    requires few { length gens.old.items ≤ 64 }
+    requires few { length gens.old.items ≤ max_generators }
     requires valid { All (IsGenerator names.now.field (length names.now.letters) names.now.d) gens.old.items }
     ensures gives { Gives (λ p. (gens.new.items, place_of p)) result
         (meant (λ m. gens.old.items ++ member_gens (values_of names.now) m) (member_at (declarations_of names.now) (length gens.old.items) (place_of here.entry))) }
-    ensures few { IfOk result (λ p. length gens.new.items ≤ 64) }
+    ensures few { IfOk result (λ p. length gens.new.items ≤ max_generators) }
     ensures valid { IfOk result (λ p. All (IsGenerator names.now.field (length names.now.letters) names.now.d) gens.new.items) }
     ensures shorter { IfOk result (λ p. p.left ≤ here.entry.left - 1) }
 {
@@ -130,7 +131,7 @@ pub(crate) fn members<'a>(
     ensures gives { Gives (λ x. (x.0.items, place_of x.1)) result
         (meant (members_gens (values_of names.now)) (members_from (declarations_of names.now) (place_of here.entry))) }
     ensures valid { IfOk result (λ x. All (IsGenerator names.now.field (length names.now.letters) names.now.d) x.0.items) }
-    ensures few { IfOk result (λ x. length x.0.items ≤ 64) }
+    ensures few { IfOk result (λ x. length x.0.items ≤ max_generators) }
     ensures shorter { IfOk result (λ x. x.1.left ≤ here.entry.left - 1) }
 {
     let mut gens = Vec::new(alloc);

@@ -1,10 +1,11 @@
 //! The noether statement.
 
 ghost use Rattle.std.specs.Prelude.{◌≡◌, ◌≤◌, ◌<◌, ◌+◌, min, length, IfOk};
+ghost use Rattle.local_order.specs.Limits.{max_degree, max_monomials};
 ghost use Rattle.local_order.specs.Count.{monomial_count as number_of_monomials};
 ghost use Rattle.sparse_poly.specs.Letters.{AreLetters};
 ghost use Rattle.script_tokens.specs.PlaceView.{place_of};
-ghost use Rattle.script_tokens.specs.Reads.{Reads};
+ghost use Rattle.script_tokens.specs.Reads.{ReadsAs};
 ghost use Rattle.script_grammar.specs.Statements.{factor_at, monomial_at, factor_degree, degree_of, noether_at};
 ghost use Rattle.ring_reader.specs.Gives.{meant};
 ghost use Rattle.ring_reader.specs.Capped.{capped};
@@ -19,7 +20,7 @@ use sparse_poly::Letters;
 /// A factor of the noether monomial, by its degree, which is 256 where it is more.
 #[tactic(auto, unfolding(script_grammar::specs::Statements::factor_at))]
 fn factor<'a>(letters: &Letters, here: Place<'a>) -> Result<(u32, Place<'a>), Refusal>
-    ensures reads { Reads (λ x. (x.0, place_of x.1)) result (meant (λ f. capped (factor_degree f)) (factor_at letters.now (place_of here.entry))) }
+    ensures reads { ReadsAs (λ x. (x.0, place_of x.1)) result (meant (λ f. capped (factor_degree f)) (factor_at letters.now (place_of here.entry))) }
     ensures low { IfOk result (λ x. x.0 ≤ 256) }
     ensures shorter { IfOk result (λ x. x.1.left < here.entry.left) }
 {
@@ -42,7 +43,7 @@ fn factor<'a>(letters: &Letters, here: Place<'a>) -> Result<(u32, Place<'a>), Re
 
 /// The noether monomial, by its degree, which is 256 where it is more.
 fn monomial<'a>(letters: &Letters, here: Place<'a>) -> Result<(u32, Place<'a>), Refusal>
-    ensures reads { Reads (λ x. (x.0, place_of x.1)) result (meant (λ m. capped (degree_of m)) (monomial_at letters.now (place_of here.entry))) }
+    ensures reads { ReadsAs (λ x. (x.0, place_of x.1)) result (meant (λ m. capped (degree_of m)) (monomial_at letters.now (place_of here.entry))) }
     ensures low { IfOk result (λ x. x.0 ≤ 256) }
     ensures shorter { IfOk result (λ x. x.1.left < here.entry.left) }
 {
@@ -59,10 +60,10 @@ fn monomial<'a>(letters: &Letters, here: Place<'a>) -> Result<(u32, Place<'a>), 
 #[tactic(auto, unfolding(script_grammar::specs::Statements::noether_at))]
 pub(crate) fn noether<'a>(letters: &Letters, here: Place<'a>) -> Result<(u32, Place<'a>), Refusal>
     requires letters { AreLetters letters.now }
-    ensures reads { Reads (λ x. (x.0, place_of x.1)) result (meant degree_of (noether_at letters.now (place_of here.entry))) }
+    ensures reads { ReadsAs (λ x. (x.0, place_of x.1)) result (meant degree_of (noether_at letters.now (place_of here.entry))) }
     ensures some { IfOk result (λ x. 1 ≤ x.0) }
-    ensures low { IfOk result (λ x. x.0 ≤ 255) }
-    ensures few { IfOk result (λ x. number_of_monomials (length letters.now) x.0 ≤ 4096) }
+    ensures low { IfOk result (λ x. x.0 ≤ max_degree) }
+    ensures few { IfOk result (λ x. number_of_monomials (length letters.now) x.0 ≤ max_monomials) }
     ensures shorter { IfOk result (λ x. x.1.left < here.entry.left) }
 {
     let start = mark(here, b'=', What::Equals)?;

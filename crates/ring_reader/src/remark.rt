@@ -3,7 +3,7 @@
 ghost use Rattle.std.specs.Prelude.{◌≡◌, true, ◌<◌, ◌≤◌, ◌-◌, IfOk};
 ghost use Rattle.script_tokens.specs.PlaceView.{place_of};
 ghost use Rattle.script_tokens.specs.TokenView.{token_of};
-ghost use Rattle.script_tokens.specs.Reads.{Reads};
+ghost use Rattle.script_tokens.specs.Reads.{ReadsAs};
 ghost use Rattle.script_grammar.specs.Words.{is_the_text};
 ghost use Rattle.script_grammar.specs.Statements.{begins_remark, library_at, remark_at};
 ghost use Rattle.ring_reader.specs.Behind.{behind_read, remarks_read};
@@ -21,7 +21,7 @@ pub(crate) fn is_remark(here: Place) -> bool
 
 /// The string `"sing.lib"`.
 fn library(here: Place<'_>) -> Result<Place<'_>, Refusal>
-    ensures reads { Reads place_of result (library_at (place_of here.entry)) }
+    ensures reads { ReadsAs place_of result (library_at (place_of here.entry)) }
     ensures shorter { IfOk result (λ n. n.left < here.entry.left) }
 {
     match here.token {
@@ -33,7 +33,7 @@ fn library(here: Place<'_>) -> Result<Place<'_>, Refusal>
 /// A remark.
 #[tactic(auto, unfolding(script_grammar::specs::Statements::remark_at))]
 pub(crate) fn remark(here: Place<'_>) -> Result<Place<'_>, Refusal>
-    ensures reads { Reads place_of result (behind_read (remark_at (place_of here.entry))) }
+    ensures reads { ReadsAs place_of result (behind_read (remark_at (place_of here.entry))) }
     ensures shorter { IfOk result (λ n. n.left ≤ here.entry.left - 1) }
 {
     if is_word(here, b"option") {
@@ -48,7 +48,7 @@ pub(crate) fn remark(here: Place<'_>) -> Result<Place<'_>, Refusal>
 
 /// Remarks, as long as there are some.
 pub(crate) fn remarks(here: Place<'_>) -> Result<Place<'_>, Refusal>
-    ensures reads { Reads place_of result (remarks_read (place_of here.entry)) }
+    ensures reads { ReadsAs place_of result (remarks_read (place_of here.entry)) }
     ensures shorter { IfOk result (λ n. n.left ≤ here.entry.left) }
 {
     let mut after = here;

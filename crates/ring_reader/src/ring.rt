@@ -1,12 +1,13 @@
 //! The ring statement.
 
 ghost use Rattle.std.specs.Prelude.{◌≡◌, ◌<◌, ◌≤◌, ◌==◌, [], false, true, length, IfOk, IfSome, IfNone};
+ghost use Rattle.local_order.specs.Limits.{max_variables};
 ghost use Rattle.std.specs.List.{list_any};
 ghost use Rattle.prime_field.specs.Decimal.{value_of};
 ghost use Rattle.prime_field.specs.Prime.{InTable, table};
 ghost use Rattle.sparse_poly.specs.Letters.{AreLetters};
 ghost use Rattle.script_tokens.specs.PlaceView.{place_of};
-ghost use Rattle.script_tokens.specs.Reads.{Reads, meant_number};
+ghost use Rattle.script_tokens.specs.Reads.{ReadsAs, meant_number};
 ghost use Rattle.script_grammar.specs.Tokens.{is_letter};
 ghost use Rattle.script_grammar.specs.Words.{has_letter};
 ghost use Rattle.script_grammar.specs.Statements.{ring_name_at, prime_at, variable_at, listed_at, letters_at, letters_of, ring_at};
@@ -14,6 +15,7 @@ ghost use Rattle.ring_reader.specs.Gives.{Gives, meant};
 ghost use Rattle.ring_reader.specs.RingView.{ring_of, ring_value};
 
 use crate::stop::Stop;
+use local_order::MAX_VARIABLES;
 use prime_field::Field;
 use script_grammar::{ReadKind, Refusal, What};
 use script_tokens::{
@@ -21,9 +23,6 @@ use script_tokens::{
     refused, same, word,
 };
 use std::alloc::Global;
-
-/// The greatest number of variables.
-const MAX_VARIABLES: usize = 8;
 
 /// The greatest characteristic.
 const MAX_PRIME: u32 = 2_147_483_647;
@@ -39,7 +38,7 @@ pub(crate) struct Ring<'a> {
 /// The ring's name. Nothing else is declared yet.
 #[tactic(auto, unfolding(script_grammar::specs::Statements::ring_name_at))]
 fn ring_name<'a>(here: Place<'a>) -> Result<(&'a [u8], Place<'a>), Refusal>
-    ensures reads { Reads (λ x. (x.0.now, place_of x.1)) result (ring_name_at (place_of here.entry)) }
+    ensures reads { ReadsAs (λ x. (x.0.now, place_of x.1)) result (ring_name_at (place_of here.entry)) }
     ensures shorter { IfOk result (λ x. x.1.left < here.entry.left) }
 {
     let Some(word) = name(here) else {
@@ -75,7 +74,7 @@ fn is_in_table(p: u32) -> bool
 /// The characteristic.
 #[tactic(auto, unfolding(script_grammar::specs::Statements::prime_at))]
 fn characteristic(here: Place<'_>) -> Result<(u32, Place<'_>), Refusal>
-    ensures reads { Reads (λ x. (x.0, place_of x.1)) result (meant_number (prime_at (place_of here.entry))) }
+    ensures reads { ReadsAs (λ x. (x.0, place_of x.1)) result (meant_number (prime_at (place_of here.entry))) }
     ensures offered { IfOk result (λ x. InTable x.0) }
     ensures shorter { IfOk result (λ x. x.1.left < here.entry.left) }
 {
@@ -89,10 +88,10 @@ fn characteristic(here: Place<'_>) -> Result<(u32, Place<'_>), Refusal>
 /// One more letter of a variable.
 #[tactic(auto, unfolding(script_grammar::specs::Statements::variable_at))]
 fn variable<'a>(ring: &[u8], letters: &[u8], here: Place<'a>) -> Result<(u8, Place<'a>), Refusal>
-    ensures reads { Reads (λ x. (x.0, place_of x.1)) result (variable_at ring.now letters.now (place_of here.entry)) }
+    ensures reads { ReadsAs (λ x. (x.0, place_of x.1)) result (variable_at ring.now letters.now (place_of here.entry)) }
     ensures letter { IfOk result (λ x. is_letter x.0 ≡ true) }
     ensures fresh { IfOk result (λ x. has_letter letters.now x.0 ≡ false) }
-    ensures few { IfOk result (λ x. (length letters.now == 8) ≡ false) }
+    ensures few { IfOk result (λ x. (length letters.now == max_variables) ≡ false) }
     ensures shorter { IfOk result (λ x. x.1.left < here.entry.left) }
 {
     let Token::Word(word) = here.token else {

@@ -1,12 +1,14 @@
 //! Whole scripts.
 
 ghost use Rattle.std.specs.Prelude.{◌≡◌, ◌<◌, ◌≤◌, ◌&&◌, nat_le, length, All, IfOk, Ok};
+ghost use Rattle.local_order.specs.Limits.{max_degree, max_monomials};
+ghost use Rattle.script_grammar.specs.Limits.{max_commands, max_script};
 ghost use Rattle.prime_field.specs.Prime.{InTable};
 ghost use Rattle.local_order.specs.Count.{monomial_count};
 ghost use Rattle.sparse_poly.specs.Letters.{AreLetters};
 ghost use Rattle.script_tokens.specs.PlaceView.{place_of};
 ghost use Rattle.script_tokens.specs.TokenView.{token_of};
-ghost use Rattle.script_tokens.specs.Reads.{Reads};
+ghost use Rattle.script_tokens.specs.Reads.{ReadsAs};
 ghost use Rattle.script_grammar.specs.Words.{is_the_end};
 ghost use Rattle.script_grammar.specs.Trees.{Tree};
 ghost use Rattle.script_grammar.specs.Statements.{degree_of};
@@ -50,11 +52,11 @@ fn statements(
     requires offered { InTable ring.now.prime }
     requires letters { AreLetters ring.now.letters.items }
     requires some { 1 ≤ d }
-    requires low { d ≤ 255 }
-    requires few { monomial_count (length ring.now.letters.items) d ≤ 4096 }
+    requires low { d ≤ max_degree }
+    requires few { monomial_count (length ring.now.letters.items) d ≤ max_monomials }
     ensures gives { Gives (λ v. v.items) result (statements_part (ring_of ring.now) d (place_of start.entry)) }
     ensures asked { IfOk result (λ v. 1 ≤ length v.items) }
-    ensures few { IfOk result (λ v. length v.items ≤ 64) }
+    ensures few { IfOk result (λ v. length v.items ≤ max_commands) }
     ensures belong { IfOk result (λ v. All (IsCommandIn ring.now.prime (length ring.now.letters.items) d) v.items) }
 {
     let field = field_of(ring.prime);
@@ -102,10 +104,10 @@ fn letters_of(bytes: &[u8]) -> Letters
 /// The noether degree, from the word `noether` on. Another statement there is refused as such.
 fn noether_degree<'a>(letters: &[u8], here: Place<'a>) -> Result<(u32, Place<'a>), Refusal>
     requires { AreLetters letters.now }
-    ensures reads { Reads (λ x. (x.0, place_of x.1)) result (meant degree_of (noether_part letters.now (place_of here.entry))) }
+    ensures reads { ReadsAs (λ x. (x.0, place_of x.1)) result (meant degree_of (noether_part letters.now (place_of here.entry))) }
     ensures some { IfOk result (λ x. 1 ≤ x.0) }
-    ensures low { IfOk result (λ x. x.0 ≤ 255) }
-    ensures few { IfOk result (λ x. monomial_count (length letters.now) x.0 ≤ 4096) }
+    ensures low { IfOk result (λ x. x.0 ≤ max_degree) }
+    ensures few { IfOk result (λ x. monomial_count (length letters.now) x.0 ≤ max_monomials) }
 {
     if is_word(here, b"noether") {
         return noether(&letters_of(letters), behind(here));
@@ -130,7 +132,7 @@ fn script(alloc: Global, here: Place<'_>) -> Result<Script, Stop>
     let (d, after) = noether_degree(&ring.letters, here)?;
     let commands = statements(alloc, &ring, d, after)?;
     Ok(Script {
-        letters: letters_of(&ring.letters),
+        names: letters_of(&ring.letters),
         field: field_of(ring.prime),
         d,
         commands: Commands::from_vec(commands),
@@ -139,7 +141,7 @@ fn script(alloc: Global, here: Place<'_>) -> Result<Script, Stop>
 
 /// The line and the column behind the bytes.
 fn position(bytes: &[u8]) -> (u32, u32)
-    requires { length bytes.now ≤ 1048576 }
+    requires { length bytes.now ≤ max_script }
     ensures { (result.0, result.1) ≡ position_from 1 1 bytes.now }
 {
     let mut line = 1;
@@ -157,7 +159,7 @@ fn position(bytes: &[u8]) -> (u32, u32)
 
 /// The script of these bytes, or its first refusal with its position.
 fn located_script(alloc: Global, bytes: &[u8]) -> Result<Script, ReadError>
-    requires { length bytes.now ≤ 1048576 }
+    requires { length bytes.now ≤ max_script }
     ensures exact { Answers bytes.now result (asked_by bytes.now) }
     ensures coherent { IfOk result IsCoherent }
 {
@@ -178,7 +180,7 @@ fn located_script(alloc: Global, bytes: &[u8]) -> Result<Script, ReadError>
 
 /// What the script of these bytes asks for, or the first refusal in them.
 pub fn read_script(alloc: Global, bytes: &[u8]) -> Result<Script, ReadError>
-    requires { length bytes.now ≤ 1048576 }
+    requires { length bytes.now ≤ max_script }
     // What is read is a script of the grammar, with its meaning.
     ensures found { IfOk result (λ s. (t : Tree) × IsScript bytes.now t × (s ≡ meaning t)) }
     // Each script of the grammar is read, unless memory runs out.

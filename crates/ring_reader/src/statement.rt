@@ -1,6 +1,8 @@
 //! One statement.
 
 ghost use Rattle.std.specs.Prelude.{◌≡◌, ◌<◌, ◌≤◌, ◌+◌, ◌-◌, true, false, [], length, map, All, Contains, IfOk};
+ghost use Rattle.local_order.specs.Limits.{max_generators};
+ghost use Rattle.script_grammar.specs.Limits.{max_commands};
 ghost use Rattle.std.specs.Str.{IsAscii};
 ghost use Rattle.script_tokens.specs.PlaceView.{place_of};
 ghost use Rattle.script_tokens.specs.TokenView.{token_of};
@@ -55,7 +57,7 @@ fn same_generators(alloc: Global, names: &Names, ideal: &NamedIdeal) -> Result<P
     requires there { Contains names.now.ideals.now ideal.now }
     ensures same { IfOk result (λ g. g ≡ ideal.now.gens) }
     ensures valid { IfOk result (All (IsGenerator names.now.field (length names.now.letters) names.now.d)) }
-    ensures few { IfOk result (λ g. length g ≤ 64) }
+    ensures few { IfOk result (λ g. length g ≤ max_generators) }
 {
     ideal.gens.copy(alloc)
 }
@@ -201,11 +203,11 @@ pub(crate) fn statement<'a>(
     here: Place<'a>,
 ) -> Result<(Effect, Place<'a>), Stop>
     requires sound { IsSound names.now }
-    requires few { count ≤ 64 }
+    requires few { count ≤ max_commands }
     ensures gives { Gives (λ x. (x.0, place_of x.1)) result
         (meant (effect_of (values_of names.now)) (statement_at (declarations_of names.now) count (place_of here.entry))) }
     ensures sound { IfOk result (λ x. IsSoundEffect names.now.field (length names.now.letters) names.now.d x.0) }
-    ensures few { IfOk result (λ x. count + commands_asked x.0 ≤ 64) }
+    ensures few { IfOk result (λ x. count + commands_asked x.0 ≤ max_commands) }
     ensures shorter { IfOk result (λ x. x.1.left < here.entry.left) }
 {
     if is_remark(here) {

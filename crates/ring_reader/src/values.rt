@@ -1,6 +1,7 @@
 //! The polynomials that words stand for.
 
 ghost use Rattle.std.specs.Prelude.{◌≡◌, ◌≢◌, ℕ, ◌+◌, ◌*◌, ◌%◌, ◌<◌, ◌≤◌, true, false, [], ◌∷◌, length, map, Contains, IfOk, IfSome, IfNone};
+ghost use Rattle.local_order.specs.Limits.{max_exponent};
 ghost use Rattle.prime_field.specs.Decimal.{AreDigits, value_of};
 ghost use Rattle.prime_field.specs.Inverse.{inverse};
 ghost use Rattle.local_order.specs.Mono.{degree, mono_one};
@@ -14,14 +15,11 @@ ghost use Rattle.ring_reader.specs.Sound.{IsSound, IsValue};
 ghost use Rattle.ring_reader.specs.Constant.{IsConstant, short_mono};
 
 use crate::names::{NamedPoly, Names};
-use local_order::Mono;
+use local_order::{MAX_VARIABLES, Mono};
 use prime_field::Field;
 use script_tokens::{coefficient, letter_exponent, same};
 use sparse_poly::{Poly, PolyTerm};
 use std::alloc::{AllocError, Global};
-
-/// The greatest number of variables.
-const MAX_VARIABLES: usize = 8;
 
 /// The polynomial of one term.
 fn term(alloc: Global, names: &Names, mono: Mono, residue: u32) -> Result<Poly, AllocError>
@@ -75,7 +73,7 @@ fn exponents(names: &Names, word: &[u8]) -> Option<Mono>
     requires sound { IsSound names.now }
     requires small { has_large word.now ≡ false }
     ensures some { IfSome result (λ m. m ≡ short_mono names.now.letters word.now) }
-    ensures none { IfNone result (1000 < degree (short_mono names.now.letters word.now)) }
+    ensures none { IfNone result (max_exponent < degree (short_mono names.now.letters word.now)) }
 {
     let n = names.letters.len();
     let mut exps = [0; MAX_VARIABLES];

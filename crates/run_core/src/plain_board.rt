@@ -1,6 +1,7 @@
 //! The board of one worker.
 
 ghost use Rattle.std.specs.Prelude.{◌≡◌, ◌<◌, ◌≤◌, ◌^◌, true, false, Some, length, IfOk, IfSome, OnOk, OnErr};
+ghost use Rattle.local_order.specs.Limits.{max_monomials};
 ghost use Rattle.entry_code.specs.Entry.{entry_of};
 ghost use Rattle.mora_law.specs.declared.step_end.StepEnd.TheVariants.{Stuck};
 ghost use Rattle.mora_law.specs.Run.{last_known};
@@ -43,7 +44,7 @@ impl Model for PlainBoard {
 
 /// How many tickets so many generators and entries have.
 fn total(generators: u32, entries: usize) -> u64
-    requires { entries ≤ 4096 }
+    requires { entries ≤ max_monomials }
     ensures { result ≡ ticket_total generators entries }
 {
     let n = entries as u64;
@@ -105,7 +106,7 @@ impl PlainBoard {
     /// Claims the next ticket, where there is one. The hand is that ticket without readings.
     pub fn claim(&mut self) -> Option<u64>
         requires idle { is_working self.old ≡ false }
-        requires few { length self.old.entries ≤ 4096 }
+        requires few { length self.old.entries ≤ max_monomials }
         ensures none { result ≡ None → (ticket_total (length self.old.problem.gens) (length self.old.entries) ≤ self.old.ticket) × (self.new ≡ self.old) }
         ensures some { IfSome result (λ k. (k ≡ self.old.ticket) × (k < ticket_total (length self.old.problem.gens) (length self.old.entries))
             × (self.new ≡ plain_claimed self.old)) }
@@ -141,7 +142,7 @@ impl PlainBoard {
         requires stuck { plain_end self.old ≡ Some Stuck }
         requires known { last_known 0 (reads_of self.old.hand) ≡ length self.old.entries }
         requires draft { entry_of draft.now ≡ plain_draft self.old }
-        requires few { length self.old.entries < 4096 }
+        requires few { length self.old.entries < max_monomials }
         ensures ok { OnOk result (self.new ≡ plain_published self.old) }
         ensures number { IfOk result (λ k. k ≡ length self.old.entries) }
         ensures err { OnErr result (self.new ≡ self.old) }

@@ -1,6 +1,8 @@
 -- The causes of refusals: which tokens are refused where one is in a script, and why. Where a token has several, the row that
 -- stands higher is the cause.
 use Rattle.std.specs.Prelude.{◌≡◌, ◌⊎◌, ℕ, ◌+◌, ◌≤◌, ◌<◌, ◌%◌, Bool, true, false, ◌&&◌, List, [], ◌∷◌, length, codes}
+use Rattle.local_order.specs.Limits.{max_degree, max_exponent, max_generators, max_monomials}
+use Rattle.script_grammar.specs.Limits.{max_commands, max_depth, max_names}
 use Rattle.std.specs.List.{list_any}
 use Rattle.prime_field.specs.Decimal.{value_of}
 use Rattle.prime_field.specs.Prime.{InTable}
@@ -136,7 +138,7 @@ IsEarly the_noether token = begins_later token ≡ true
 IsEarly spot token = ⊥
 
 abbrev pub IsCommand65 : Spot → Token → Type 0
-IsCommand65 (a_statement count) token = (is_command token ≡ true) × (count ≡ 64)
+IsCommand65 (a_statement count) token = (is_command token ≡ true) × (count ≡ max_commands)
 IsCommand65 spot token = ⊥
 
 abbrev pub IsNoPrime : Spot → Token → Type 0
@@ -155,7 +157,7 @@ IsTaken known a_new_name token = (is_name token ≡ true) × (clashes known (wor
 IsTaken known spot token = ⊥
 
 abbrev pub IsName65 : Declarations → Spot → Token → Type 0
-IsName65 known a_new_name token = (is_name token ≡ true) × (clashes known (word_of token) ≡ false) × (64 ≤ length known.polys + length known.ideals)
+IsName65 known a_new_name token = (is_name token ≡ true) × (clashes known (word_of token) ≡ false) × (max_names ≤ length known.polys + length known.ideals)
 IsName65 known spot token = ⊥
 
 abbrev pub IsUnknownThere : Declarations → Spot → Token → Type 0
@@ -166,7 +168,7 @@ IsUnknownThere known a_factor token = (is_name token ≡ true) × (is_short know
 IsUnknownThere known spot token = ⊥
 
 abbrev pub IsLargeThere : Declarations → Spot → Token → Type 0
-IsLargeThere known an_exponent token = (is_number token ≡ true) × (1000 < value_of (word_of token))
+IsLargeThere known an_exponent token = (is_number token ≡ true) × (max_exponent < value_of (word_of token))
 IsLargeThere known (an_operand sign deep) token = (is_word token ≡ true) × IsLarge known (word_of token)
 IsLargeThere known no_room token = (is_word token ≡ true) × IsLarge known (word_of token)
 IsLargeThere known a_factor token = (is_name token ≡ true) × (is_short known.letters (word_of token) ≡ true) × (has_large (word_of token) ≡ true)
@@ -177,7 +179,7 @@ IsZero known the_divisor token = (is_number token ≡ true) × (value_of (word_o
 IsZero known spot token = ⊥
 
 abbrev pub IsParenthesis33 : Spot → Token → Type 0
-IsParenthesis33 (an_operand sign deep) token = (token ≡ mark 40) × (deep ≡ 32)
+IsParenthesis33 (an_operand sign deep) token = (token ≡ mark 40) × (deep ≡ max_depth)
 IsParenthesis33 spot token = ⊥
 
 abbrev pub HasNoRoom : Declarations → Spot → Token → Type 0
@@ -221,11 +223,11 @@ pub record IsWholeMonomial (known : Declarations) (before : List Token) (place :
   pub no_exponent : (ends_in_letter m && is_the_mark 94 behind.token) ≡ false
 
 abbrev pub IsLateCause : ReadKind → Declarations → List Token → Place → Type 0
-IsLateCause NoetherDegree known before place = (m : Monomial) × IsWholeMonomial known before place m × ((degree_of m ≡ 0) ⊎ (255 < degree_of m))
+IsLateCause NoetherDegree known before place = (m : Monomial) × IsWholeMonomial known before place m × ((degree_of m ≡ 0) ⊎ (max_degree < degree_of m))
 IsLateCause (TooManyMonomials n) known before place =
-    (m : Monomial) × IsWholeMonomial known before place m × (1 ≤ degree_of m) × (degree_of m ≤ 255) × (n ≡ monomial_count (length known.letters) (degree_of m)) × (4096 < n)
+    (m : Monomial) × IsWholeMonomial known before place m × (1 ≤ degree_of m) × (degree_of m ≤ max_degree) × (n ≡ monomial_count (length known.letters) (degree_of m)) × (max_monomials < n)
 IsLateCause TooManyGenerators known before place =
-    (gens : ℕ) × (name : List ℕ) × (behind : Place) × BeforeMember known gens before × Stand place (word (codes "jacob") ∷ mark 40 ∷ one (word name)) behind × IsOneOf known.polys name × (64 < gens + length known.letters)
+    (gens : ℕ) × (name : List ℕ) × (behind : Place) × BeforeMember known gens before × Stand place (word (codes "jacob") ∷ mark 40 ∷ one (word name)) behind × IsOneOf known.polys name × (max_generators < gens + length known.letters)
 IsLateCause kind known before place = ⊥
 
 -- The cause of a refusal of this kind at a place, behind these tokens: the token that stands there, or what stands from there on.

@@ -1,5 +1,6 @@
 -- Expressions, read from left to right.
 use Rattle.std.specs.Prelude.{ℕ, zero, suc, ◌%◌, Bool, true, false, not, ◌&&◌, ◌||◌, List, length, Result, Ok, ◌==◌, if◌then◌else◌}
+use Rattle.script_grammar.specs.Limits.{max_depth}
 use Rattle.prime_field.specs.Decimal.{value_of}
 use Rattle.script_grammar.specs.declared.refusal.What.TheVariants as whats
 use Rattle.script_grammar.specs.declared.refusal.ReadKind.TheVariants.{UnknownName, ExponentTooLarge, ZeroDivisor, TooDeep}
@@ -97,4 +98,4 @@ inner_at (suc deep) known t = do
 
 -- A whole expression. The token behind it is left to the statement.
 unfoldable pub expression_at : Declarations → Place → Result (Sum × Place) Refusal
-expression_at known t = sum_at (inner_at 32 known) known t
+expression_at known t = sum_at (inner_at max_depth known) known t

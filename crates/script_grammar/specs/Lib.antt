@@ -1,3 +1,4 @@
+pub mod Limits
 pub mod Tokens
 pub mod Words
 pub mod Trees

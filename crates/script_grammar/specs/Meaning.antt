@@ -142,7 +142,7 @@ first_values t = record { p = value_of t.ring.prime; letters = letters_of t.ring
 
 abbrev pub meaning : Tree → Script
 meaning t = record {
-  letters = letters_of t.ring.variables;
+  names = letters_of t.ring.variables;
   field = value_of t.ring.prime;
   d = degree_of t.noether;
   commands = statements_meaning (first_values t) t.statements;

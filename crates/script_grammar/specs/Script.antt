@@ -1,5 +1,6 @@
 -- The whole script, read from left to right, and the place of its first refusal.
 use Rattle.std.specs.Prelude.{ℕ, zero, suc, ◌+◌, ◌-◌, Bool, true, false, ◌&&◌, ◌||◌, List, [], ◌∷◌, ◌++◌, length, take, Result, Ok, nat_le, Option, Some, None, ◌==◌, if◌then◌else◌, codes}
+use Rattle.script_grammar.specs.Limits.{max_commands}
 use Rattle.prime_field.specs.Decimal.{value_of}
 use Rattle.script_grammar.specs.declared.refusal.What.TheVariants as whats
 use Rattle.script_grammar.specs.declared.refusal.ReadKind.TheVariants.{MissingNoether, TooManyCommands}
@@ -49,7 +50,7 @@ commands_in (ideal name members) = 0
 -- a command, behind count others
 abbrev pub command_from : Declarations → ℕ → Place → Option Word → Result (Statement × Place) Refusal
 command_from known count t None = wanted t whats.Statement
-command_from known count t (Some c) = if count == 64 then refused t TooManyCommands else command_at known c (next t.rest)
+command_from known count t (Some c) = if count == max_commands then refused t TooManyCommands else command_at known c (next t.rest)
 
 unfoldable pub statement_at : Declarations → ℕ → Place → Result (Statement × Place) Refusal
 statement_at known count t =

@@ -1,5 +1,7 @@
 -- Where one is in a script, behind some tokens: which part must come next. All that stands before keeps the rules.
 use Rattle.std.specs.Prelude.{◌≡◌, ◌⊎◌, ℕ, ◌+◌, ◌≤◌, ◌<◌, Bool, true, false, ◌||◌, List, [], ◌∷◌, ◌++◌, length, codes, if◌then◌else◌}
+use Rattle.local_order.specs.Limits.{max_generators, max_variables}
+use Rattle.script_grammar.specs.Limits.{max_commands, max_depth}
 use Rattle.std.specs.List.{flat_map}
 use Rattle.prime_field.specs.Decimal.{value_of}
 use Rattle.prime_field.specs.Prime.{InTable}
@@ -76,7 +78,7 @@ ends_power cut = false
 
 -- these tokens begin a valid expression
 abbrev pub BeginsSum : Declarations → List Token → Type 0
-BeginsSum known tokens = (x : Sum) × (behind : List Token) × (sum_tokens x ≡ tokens ++ behind) × ValidSum known 32 x
+BeginsSum known tokens = (x : Sum) × (behind : List Token) × (sum_tokens x ≡ tokens ++ behind) × ValidSum known max_depth x
 
 -- where one is behind tokens that begin an expression
 abbrev pub SpotInSum : Spot → List Token → Type 0
@@ -111,7 +113,7 @@ BeforeRemark tokens = BeforeRing tokens ⊎ ((known : Declarations) × BeforeNoe
 pub record RingBegins (known : Declarations) (p : List ℕ) : Type 0 where
   pub name : (is_named known.ring ≡ true) × (is_one_of keywords known.ring ≡ false)
   pub prime : (is_numeral p ≡ true) × InTable (value_of p)
-  pub count : length known.letters ≤ 8
+  pub count : length known.letters ≤ max_variables
   pub letters : AreVariables known.ring known.letters
 
 abbrev pub InRing : Declarations → List Token → List Token → Type 0
@@ -136,21 +138,21 @@ BeforeFactor known tokens = InNoether known [] tokens ⊎ ((m : Monomial) × Val
 abbrev pub BeforeMember : Declarations → ℕ → List Token → Type 0
 BeforeMember known gens tokens =
     (count : ℕ) × (name : List ℕ) × IsNew known name × ((Behind (BeforeStatement known count) (word (codes "ideal") ∷ word name ∷ one (mark 61)) tokens × (gens ≡ 0))
-    ⊎ ((ms : Members) × ValidMembers known ms × (count_of known ms ≤ 64) × (gens ≡ count_of known ms) × Behind (BeforeStatement known count) (word (codes "ideal") ∷ word name ∷ mark 61 ∷ (members_tokens ms ++ one (mark 44))) tokens))
+    ⊎ ((ms : Members) × ValidMembers known ms × (count_of known ms ≤ max_generators) × (gens ≡ count_of known ms) × Behind (BeforeStatement known count) (word (codes "ideal") ∷ word name ∷ mark 61 ∷ (members_tokens ms ++ one (mark 44))) tokens))
 
 -- an expression comes
 abbrev pub BeforeSum : Declarations → List Token → Type 0
 BeforeSum known tokens =
     ((count : ℕ) × (name : List ℕ) × IsNew known name × Behind (BeforeStatement known count) (word (codes "poly") ∷ word name ∷ one (mark 61)) tokens)
-    ⊎ ((gens : ℕ) × (gens < 64) × BeforeMember known gens tokens)
+    ⊎ ((gens : ℕ) × (gens < max_generators) × BeforeMember known gens tokens)
 
 -- A name in parentheses comes, one of these names, and then these tokens: in std( ) or jacob( ), or in a command.
 pub data BeforeArgument (known : Declarations) : List (List ℕ) → List Token → List Token → Type 0 where
   of_again : (count : ℕ) (name : List ℕ) (tokens : List Token) → IsNew known name → Behind (BeforeStatement known count) (word (codes "ideal") ∷ word name ∷ mark 61 ∷ one (word (codes "std"))) tokens
       → BeforeArgument known known.ideals (one (mark 59)) tokens
-  of_command : (count : ℕ) (w : Word) (tokens : List Token) → count < 64 → Behind (BeforeStatement known count) (one (word (command_word w))) tokens
+  of_command : (count : ℕ) (w : Word) (tokens : List Token) → count < max_commands → Behind (BeforeStatement known count) (one (word (command_word w))) tokens
       → BeforeArgument known (if is_on_poly w then known.polys else known.ideals) (one (mark 59)) tokens
-  of_std : (count : ℕ) (w : Word) (tokens : List Token) → count < 64 → is_on_poly w ≡ false → Behind (BeforeStatement known count) (word (command_word w) ∷ mark 40 ∷ one (word (codes "std"))) tokens
+  of_std : (count : ℕ) (w : Word) (tokens : List Token) → count < max_commands → is_on_poly w ≡ false → Behind (BeforeStatement known count) (word (command_word w) ∷ mark 40 ∷ one (word (codes "std"))) tokens
       → BeforeArgument known known.ideals (mark 41 ∷ one (mark 59)) tokens
   of_jacob : (gens : ℕ) (tokens : List Token) → Behind (BeforeMember known gens) (one (word (codes "jacob"))) tokens
       → BeforeArgument known known.polys [] tokens
@@ -174,7 +176,7 @@ pub data MustStand (known : Declarations) : Token → List Token → Type 0 wher
   of_end : (names : List (List ℕ)) (name : List ℕ) (i j : Token) (rest done behind tokens : List Token) → IsOneOf names name → done ++ (i ∷ behind) ≡ mark 41 ∷ j ∷ rest
       → Behind (BeforeArgument known names (j ∷ rest)) (mark 40 ∷ word name ∷ done) tokens → MustStand known i tokens
   -- the ) of jacob( ), where there is room for its generators
-  of_jacobian : (gens : ℕ) (name : List ℕ) (tokens : List Token) → gens + length known.letters ≤ 64 → IsOneOf known.polys name
+  of_jacobian : (gens : ℕ) (name : List ℕ) (tokens : List Token) → gens + length known.letters ≤ max_generators → IsOneOf known.polys name
       → Behind (BeforeMember known gens) (word (codes "jacob") ∷ mark 40 ∷ one (word name)) tokens → MustStand known (mark 41) tokens
 
 -- behind these tokens one is at this spot, where so much is declared
@@ -196,10 +198,10 @@ Here known an_exponent tokens =
     ⊎ ((letter : List ℕ) × (is_named letter ≡ true) × (length letter ≡ 1) × (is_short known.letters letter ≡ true) × Behind (BeforeFactor known) (word letter ∷ one (mark 94)) tokens)
 Here known (behind_power ends) tokens =
     ((inner : List Token) × SpotInSum (behind_power ends) inner × BeginsSum known inner × Behind (BeforeSum known) inner tokens)
-    ⊎ ((count : ℕ) × (name : List ℕ) × (x : Sum) × (ends ≡ 59 ∷ []) × IsNew known name × ValidSum known 32 x × Behind (BeforeStatement known count) (word (codes "poly") ∷ word name ∷ mark 61 ∷ sum_tokens x) tokens)
-    ⊎ ((gens : ℕ) × (x : Sum) × (ends ≡ 44 ∷ 59 ∷ []) × (gens < 64) × ValidSum known 32 x × Behind (BeforeMember known gens) (sum_tokens x) tokens)
+    ⊎ ((count : ℕ) × (name : List ℕ) × (x : Sum) × (ends ≡ 59 ∷ []) × IsNew known name × ValidSum known max_depth x × Behind (BeforeStatement known count) (word (codes "poly") ∷ word name ∷ mark 61 ∷ sum_tokens x) tokens)
+    ⊎ ((gens : ℕ) × (x : Sum) × (ends ≡ 44 ∷ 59 ∷ []) × (gens < max_generators) × ValidSum known max_depth x × Behind (BeforeMember known gens) (sum_tokens x) tokens)
 Here known behind_jacobian tokens =
-    (gens : ℕ) × (name : List ℕ) × (gens + length known.letters ≤ 64) × IsOneOf known.polys name × Behind (BeforeMember known gens) (word (codes "jacob") ∷ mark 40 ∷ word name ∷ one (mark 41)) tokens
-Here known no_room tokens = BeforeMember known 64 tokens
+    (gens : ℕ) × (name : List ℕ) × (gens + length known.letters ≤ max_generators) × IsOneOf known.polys name × Behind (BeforeMember known gens) (word (codes "jacob") ∷ mark 40 ∷ word name ∷ one (mark 41)) tokens
+Here known no_room tokens = BeforeMember known max_generators tokens
 Here known (an_operand sign deep) tokens = (inner : List Token) × SpotInSum (an_operand sign deep) inner × BeginsSum known inner × Behind (BeforeSum known) inner tokens
 Here known the_divisor tokens = (inner : List Token) × SpotInSum the_divisor inner × BeginsSum known inner × Behind (BeforeSum known) inner tokens

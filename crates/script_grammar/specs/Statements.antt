@@ -1,5 +1,7 @@
 -- The statements, read from left to right.
 use Rattle.std.specs.Prelude.{ℕ, zero, suc, ◌+◌, Bool, true, false, not, ◌&&◌, ◌||◌, List, [], ◌∷◌, ◌++◌, length, Result, Ok, nat_lt, nat_le, ◌==◌, if◌then◌else◌, codes}
+use Rattle.local_order.specs.Limits.{max_degree, max_generators, max_monomials}
+use Rattle.script_grammar.specs.Limits.{max_names}
 use Rattle.std.specs.List.{list_any}
 use Rattle.prime_field.specs.Decimal.{value_of}
 use Rattle.prime_field.specs.Prime.{table}
@@ -157,8 +159,8 @@ noether_at letters t = do
   m ← monomial_at letters start
   let d = degree_of m.0
   let n = monomial_count (length letters) d
-  if d == 0 || nat_lt 255 d then refused start NoetherDegree
-      else (if nat_lt 4096 n then refused start (TooManyMonomials n)
+  if d == 0 || nat_lt max_degree d then refused start NoetherDegree
+      else (if nat_lt max_monomials n then refused start (TooManyMonomials n)
       else (mark_at 59 whats.Operator m.1 >>= λ after. Ok (m.0, after)))
 
 -- ---- names
@@ -171,7 +173,7 @@ unfoldable pub new_name_at : Declarations → Place → Result (List ℕ × Plac
 new_name_at known t =
     if not (is_word t.token && is_named (word_of t.token)) then wanted t whats.Name
     else (if clashes known (word_of t.token) then refused t NameClash
-    else (if nat_le 64 (length known.polys + length known.ideals) then refused t TooManyNames
+    else (if nat_le max_names (length known.polys + length known.ideals) then refused t TooManyNames
     else Ok (word_of t.token, next t.rest)))
 
 -- the name of a poly or an ideal that is declared
@@ -222,9 +224,9 @@ member_at known count t =
     if is_the_word (codes "jacob") t.token then (do
       opened ← mark_at 40 whats.Open (next t.rest)
       name ← name_among known.polys opened
-      if nat_lt 64 (count + length known.letters) then refused t TooManyGenerators
+      if nat_lt max_generators (count + length known.letters) then refused t TooManyGenerators
           else (mark_at 41 whats.Close name.1 >>= λ closed. Ok (jacobian name.0, closed)))
-    else (if count == 64 then no_room known t
+    else (if count == max_generators then no_room known t
     else (expression_at known t >>= λ s. Ok (generator s.0, s.1)))
 
 abbrev pub generators : Declarations → Member → ℕ

@@ -1,5 +1,6 @@
 -- Single tokens. A function gets the token that stands next, and gives what it has read with the token behind it.
 use Rattle.std.specs.Prelude.{ℕ, List, Result, Ok, Err, nat_lt, ◌&&◌, if◌then◌else◌}
+use Rattle.local_order.specs.Limits.{max_exponent}
 use Rattle.prime_field.specs.Decimal.{value_of}
 use Rattle.script_grammar.specs.declared.refusal.What.{What}
 use Rattle.script_grammar.specs.declared.refusal.What.TheVariants as whats
@@ -47,4 +48,4 @@ numeral_at t = if is_word t.token && is_numeral (word_of t.token) then Ok (word_
 unfoldable pub exponent_at : Place → Result (List ℕ × Place) Refusal
 exponent_at t = do
   n ← numeral_at t
-  if nat_lt 1000 (value_of n.0) then refused t ExponentTooLarge else Ok n
+  if nat_lt max_exponent (value_of n.0) then refused t ExponentTooLarge else Ok n

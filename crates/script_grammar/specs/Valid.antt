@@ -1,6 +1,8 @@
 -- Which bytes are a script of which tree: its tokens are spelled, each word is of its kind, each name is declared before it is
 -- used, and the limits hold.
 use Rattle.std.specs.Prelude.{◌≡◌, ◌≢◌, ℕ, suc, ◌+◌, ◌≤◌, ◌<◌, ◌%◌, Bool, true, false, not, ◌&&◌, ◌||◌, List, [], ◌∷◌, length, if◌then◌else◌}
+use Rattle.local_order.specs.Limits.{max_degree, max_exponent, max_generators, max_monomials}
+use Rattle.script_grammar.specs.Limits.{max_commands, max_depth, max_names}
 use Rattle.prime_field.specs.Decimal.{value_of}
 use Rattle.prime_field.specs.Prime.{InTable}
 use Rattle.local_order.specs.Count.{monomial_count}
@@ -30,7 +32,7 @@ abbrev mutual
 
   pub ValidPower : Declarations → ℕ → Power → Type 0
   ValidPower known deep (plain operand) = ValidOperand known deep operand
-  ValidPower known deep (raised operand digits) = ValidOperand known deep operand × (takes_exponent known operand ≡ true) × (is_numeral digits ≡ true) × (value_of digits ≤ 1000)
+  ValidPower known deep (raised operand digits) = ValidOperand known deep operand × (takes_exponent known operand ≡ true) × (is_numeral digits ≡ true) × (value_of digits ≤ max_exponent)
 
   pub ValidTerm : Declarations → ℕ → Term → Type 0
   ValidTerm known deep (single power) = ValidPower known deep power
@@ -58,7 +60,7 @@ pub record ValidRing (r : Ring) : Type 0 where
 -- a word or a letter with an exponent, in the ring's variables and without an exponent above 1,000
 abbrev pub ValidFactor : List ℕ → Factor → Type 0
 ValidFactor letters (short_word w) = (is_named w ≡ true) × (is_short letters w ≡ true) × (has_large w ≡ false)
-ValidFactor letters (raised_letter w digits) = (is_named w ≡ true) × (length w ≡ 1) × (is_short letters w ≡ true) × (is_numeral digits ≡ true) × (value_of digits ≤ 1000)
+ValidFactor letters (raised_letter w digits) = (is_named w ≡ true) × (length w ≡ 1) × (is_short letters w ≡ true) × (is_numeral digits ≡ true) × (value_of digits ≤ max_exponent)
 
 abbrev pub ValidFactors : List ℕ → Monomial → Type 0
 ValidFactors letters (factor f) = ValidFactor letters f
@@ -67,14 +69,14 @@ ValidFactors letters (product m f) = ValidFactors letters m × ValidFactor lette
 -- a monomial of a degree from 1 to 255, which at most 4,096 monomials do not exceed
 pub record ValidNoether (letters : List ℕ) (m : Monomial) : Type 0 where
   pub factors : ValidFactors letters m
-  pub degree : (1 ≤ degree_of m) × (degree_of m ≤ 255)
-  pub count : monomial_count (length letters) (degree_of m) ≤ 4096
+  pub degree : (1 ≤ degree_of m) × (degree_of m ≤ max_degree)
+  pub count : monomial_count (length letters) (degree_of m) ≤ max_monomials
 
 -- a name that may be declared: it is not taken, and there are fewer than 64
 pub record IsNew (known : Declarations) (w : List ℕ) : Type 0 where
   pub named : is_named w ≡ true
   pub free : clashes known w ≡ false
-  pub room : length known.polys + length known.ideals < 64
+  pub room : length known.polys + length known.ideals < max_names
 
 -- a word that is one of these names
 abbrev pub IsOneOf : List (List ℕ) → List ℕ → Type 0
@@ -82,7 +84,7 @@ IsOneOf names w = (is_named w ≡ true) × (is_one_of names w ≡ true)
 
 -- ---- statements, behind what is known and so many commands
 abbrev pub ValidMember : Declarations → Member → Type 0
-ValidMember known (generator sum) = ValidSum known 32 sum
+ValidMember known (generator sum) = ValidSum known max_depth sum
 ValidMember known (jacobian name) = IsOneOf known.polys name
 
 abbrev pub ValidMembers : Declarations → Members → Type 0
@@ -91,11 +93,11 @@ ValidMembers known (more ms m) = ValidMembers known ms × ValidMember known m
 
 abbrev pub ValidStatement : Declarations → ℕ → Statement → Type 0
 ValidStatement known count (remark r) = Unit {0}
-ValidStatement known count (poly name sum) = IsNew known name × ValidSum known 32 sum
+ValidStatement known count (poly name sum) = IsNew known name × ValidSum known max_depth sum
 ValidStatement known count (again name other) = IsNew known name × IsOneOf known.ideals other
-ValidStatement known count (ideal name members) = IsNew known name × ValidMembers known members × (count_of known members ≤ 64)
-ValidStatement known count (command w name) = (count < 64) × IsOneOf (if is_on_poly w then known.polys else known.ideals) name
-ValidStatement known count (command_std w name) = (count < 64) × (is_on_poly w ≡ false) × IsOneOf known.ideals name
+ValidStatement known count (ideal name members) = IsNew known name × ValidMembers known members × (count_of known members ≤ max_generators)
+ValidStatement known count (command w name) = (count < max_commands) × IsOneOf (if is_on_poly w then known.polys else known.ideals) name
+ValidStatement known count (command_std w name) = (count < max_commands) × (is_on_poly w ≡ false) × IsOneOf known.ideals name
 
 -- each statement is valid behind those before it, and one of them or more is a command
 abbrev pub ValidStatements : Declarations → ℕ → List Statement → Type 0

@@ -1,5 +1,6 @@
 -- What a word is.
 use Rattle.std.specs.Prelude.{ℕ, Bool, true, false, ◌&&◌, ◌||◌, List, [], ◌∷◌, map, sum, nat_lt, ◌==◌, if◌then◌else◌, codes}
+use Rattle.local_order.specs.Limits.{max_exponent}
 use Rattle.std.specs.List.{list_all, list_any}
 use Rattle.prime_field.specs.Decimal.{value_of}
 use Rattle.script_grammar.specs.Tokens.{is_digit, is_letter, Token, word, text, mark, bad, end, cut}
@@ -61,7 +62,7 @@ exponents (b ∷ w) = if is_letter b then (b, exponent_of (digits_front w)) ∷ 
 
 -- an exponent is above 1,000
 abbrev pub has_large : List ℕ → Bool
-has_large w = list_any (λ e. nat_lt 1000 e.1) (exponents w)
+has_large w = list_any (λ e. nat_lt max_exponent e.1) (exponents w)
 
 -- the sum of the exponents
 abbrev pub word_degree : List ℕ → ℕ

@@ -2,6 +2,7 @@
 //! Each is a call that does nothing, and whose contract is the law.
 
 ghost use Rattle.std.specs.Prelude.{◌≡◌, ◌↔◌, ℕ, ◌<◌, ◌∷◌, ◌++◌, List, Ok, Err, Some, None, codes};
+ghost use Rattle.script_grammar.specs.Limits.{max_depth};
 ghost use Rattle.std.specs.List.{repeat, flat_map};
 ghost use Rattle.script_grammar.specs.declared.refusal.Refusal.{Refusal};
 ghost use Rattle.script_grammar.specs.declared.refusal.ReadKind.TheVariants.{BadByte, EndOfInput, MissingNoether, TooManyCommands, Expected, NotAPrime, TooManyVariables, NameClash, TooManyNames, UnknownName, ExponentTooLarge, ZeroDivisor, TooDeep, NoetherDegree, TooManyMonomials, TooManyGenerators};
@@ -43,8 +44,8 @@ pub fn spelled_scripts()
 pub fn both_ways_of_expressions()
     ensures placed { (bytes : List ℕ) → Placed (next bytes) }
     ensures found { (known : Declarations) (t : Place) (x : Sum) (u : Place) → expression_at known t ≡ Ok (x, u)
-        → Stand t (sum_tokens x) u × ValidSum known 32 x }
-    ensures only { (known : Declarations) (t : Place) (x : Sum) (u : Place) → Placed t → Stand t (sum_tokens x) u → ValidSum known 32 x → EndsSum u
+        → Stand t (sum_tokens x) u × ValidSum known max_depth x }
+    ensures only { (known : Declarations) (t : Place) (x : Sum) (u : Place) → Placed t → Stand t (sum_tokens x) u → ValidSum known max_depth x → EndsSum u
         → expression_at known t ≡ Ok (x, u) }
 {}
 

@@ -114,7 +114,7 @@ impl Commands {
 /// What a script asks for: the letters of its variables, its field, its noether degree and its commands in order.
 #[derive(Drop)]
 pub struct Script {
-    pub letters: Letters,
+    pub names: Letters,
     pub field: Field,
     pub d: u32,
     pub commands: Commands,

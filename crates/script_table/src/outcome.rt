@@ -1,6 +1,7 @@
 //! The line that is printed for a script.
 
 ghost use Rattle.std.specs.Prelude.{◌≡◌, ◌≤◌, ◌++◌, length, decimal, string_bytes, IfOk, OnOk};
+ghost use Rattle.script_grammar.specs.Limits.{max_script};
 ghost use Rattle.script_table.specs.Outcome.{what_text, kind_text, refusal_text as text_of_refusal, outcome_text};
 
 use itoa::Buffer;
@@ -9,7 +10,7 @@ use std::alloc::{AllocError, Global};
 
 /// `ok`, or the place and the kind of the script's first refusal.
 pub fn outcome(alloc: Global, script: &[u8]) -> Result<String, AllocError>
-    requires { length script.now ≤ 1048576 }
+    requires { length script.now ≤ max_script }
     ensures { IfOk result (λ s. string_bytes s ≡ outcome_text script.now) }
 {
     match read_script(alloc, script) {

@@ -10,7 +10,7 @@ fn reads_what_is_asked(rt: HostRuntime) -> Result<(), Fail> {
     let Ok(script) = read_script(rt.alloc(), script) else {
         return Err(Fail::from("it is not read"));
     };
-    assert_eq!(rt; script.letters.bytes(), b"xy".as_slice());
+    assert_eq!(rt; script.names.bytes(), b"xy".as_slice());
     assert_eq!(rt; script.field.prime(), 32003);
     assert_eq!(rt; script.d, 5);
     assert_eq!(rt; script.commands.len(), 2);

@@ -6,9 +6,9 @@ use Rattle.script_grammar.specs.Steps.{◌>>=◌}
 use Rattle.script_grammar.specs.Tokens.{Token, Place, word, text, mark, bad, end, cut}
 
 -- the answer, seen by view, is what is read
-abbrev pub Reads : {X Y : Type 0} → (X → Y) → Result X Refusal → Result Y Refusal → Type 0
-Reads view (Ok x) read = read ≡ Ok (view x)
-Reads view (Err f) read = read ≡ Err f
+abbrev pub ReadsAs : {X Y : Type 0} → (X → Y) → Result X Refusal → Result Y Refusal → Type 0
+ReadsAs view (Ok x) read = read ≡ Ok (view x)
+ReadsAs view (Err f) read = read ≡ Err f
 
 -- the end of the input, whole or cut off
 abbrev pub is_last : Token → Bool

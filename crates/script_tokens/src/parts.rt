@@ -8,7 +8,7 @@ ghost use Rattle.script_grammar.specs.Words.{is_the_mark, is_the_word, is_word a
 ghost use Rattle.script_grammar.specs.Steps.{kind_at, mark_at, word_at, numeral_at, exponent_at};
 ghost use Rattle.script_tokens.specs.TokenView.{token_of};
 ghost use Rattle.script_tokens.specs.PlaceView.{place_of};
-ghost use Rattle.script_tokens.specs.Reads.{Reads, meant_number};
+ghost use Rattle.script_tokens.specs.Reads.{ReadsAs, meant_number};
 
 use crate::lexer::next_token;
 use crate::token::{Place, Token};
@@ -77,7 +77,7 @@ pub fn behind(here: Place<'_>) -> Place<'_>
 /// The place behind just this mark.
 #[tactic(auto, unfolding(script_grammar::specs::Steps::mark_at))]
 pub fn mark(here: Place<'_>, mark: u8, what: What) -> Result<Place<'_>, Refusal>
-    ensures reads { Reads place_of result (mark_at mark what (place_of here.entry)) }
+    ensures reads { ReadsAs place_of result (mark_at mark what (place_of here.entry)) }
     ensures shorter { IfOk result (λ n. n.left < here.entry.left) }
 {
     if is_mark(here, mark) {
@@ -90,7 +90,7 @@ pub fn mark(here: Place<'_>, mark: u8, what: What) -> Result<Place<'_>, Refusal>
 /// The place behind just this word.
 #[tactic(auto, unfolding(script_grammar::specs::Steps::word_at))]
 pub fn word<'a>(here: Place<'a>, word: &[u8], what: What) -> Result<Place<'a>, Refusal>
-    ensures reads { Reads place_of result (word_at word.now what (place_of here.entry)) }
+    ensures reads { ReadsAs place_of result (word_at word.now what (place_of here.entry)) }
     ensures shorter { IfOk result (λ n. n.left < here.entry.left) }
 {
     if is_word(here, word) {
@@ -103,7 +103,7 @@ pub fn word<'a>(here: Place<'a>, word: &[u8], what: What) -> Result<Place<'a>, R
 /// The digits of a numeral.
 #[tactic(auto, unfolding(script_grammar::specs::Steps::numeral_at))]
 pub fn numeral(here: Place<'_>) -> Result<(&[u8], Place<'_>), Refusal>
-    ensures reads { Reads (λ x. (x.0.now, place_of x.1)) result (numeral_at (place_of here.entry)) }
+    ensures reads { ReadsAs (λ x. (x.0.now, place_of x.1)) result (numeral_at (place_of here.entry)) }
     ensures digits { IfOk result (λ x. AreDigits x.0.now) }
     ensures shorter { IfOk result (λ x. x.1.left < here.entry.left) }
 {
@@ -116,7 +116,7 @@ pub fn numeral(here: Place<'_>) -> Result<(&[u8], Place<'_>), Refusal>
 /// The numeral behind `^`.
 #[tactic(auto, unfolding(script_grammar::specs::Steps::exponent_at))]
 pub fn exponent(here: Place<'_>) -> Result<(u32, Place<'_>), Refusal>
-    ensures reads { Reads (λ x. (x.0, place_of x.1)) result (meant_number (exponent_at (place_of here.entry))) }
+    ensures reads { ReadsAs (λ x. (x.0, place_of x.1)) result (meant_number (exponent_at (place_of here.entry))) }
     ensures shorter { IfOk result (λ x. x.1.left < here.entry.left) }
 {
     let (digits, after) = numeral(here)?;

@@ -1,6 +1,7 @@
 //! Short monomials: `2xy3` is 2 * x * y^3.
 
 ghost use Rattle.std.specs.Prelude.{◌≡◌, ◌+◌, ◌≤◌, ◌||◌, false, length, min, IfSome};
+ghost use Rattle.local_order.specs.Limits.{max_exponent};
 ghost use Rattle.std.specs.List.{list_all};
 ghost use Rattle.prime_field.specs.Decimal.{AreDigits};
 ghost use Rattle.script_grammar.specs.Tokens.{is_digit};
@@ -74,7 +75,7 @@ pub fn is_short(letters: &[u8], word: &[u8]) -> bool
 
 /// The exponent that the digits in front of these bytes are, 1 where there are none, where it is at most 1,000.
 fn exponent_in_front(bytes: &[u8]) -> Option<u32>
-    ensures { result ≡ at_most 1000 (exponent_of (digits_front bytes.now)) }
+    ensures { result ≡ at_most max_exponent (exponent_of (digits_front bytes.now)) }
 {
     match coefficient(bytes) {
         [] => Some(1),
@@ -101,7 +102,7 @@ pub fn has_large(word: &[u8]) -> bool
 /// The sum of the exponents, or one more than the limit where it is above that. No exponent is above 1,000.
 pub fn degree_within(limit: u32, word: &[u8]) -> u32
     requires small { has_large_exponent word.now ≡ false }
-    requires limit { limit ≤ 1000 }
+    requires limit { limit ≤ max_exponent }
     ensures { result ≡ min (word_degree word.now) (limit + 1) }
 {
     let mut degree: u32 = 0;
@@ -118,8 +119,8 @@ pub fn degree_within(limit: u32, word: &[u8]) -> u32
 /// The sum of a degree and an exponent, or one more than the limit where it is above that.
 fn capped(limit: u32, degree: u32, exponent: Option<u32>) -> u32
     requires degree { degree ≤ 1001 }
-    requires limit { limit ≤ 1000 }
-    requires exponent { IfSome exponent (λ e. e ≤ 1000) }
+    requires limit { limit ≤ max_exponent }
+    requires exponent { IfSome exponent (λ e. e ≤ max_exponent) }
     ensures { IfSome exponent (λ e. result ≡ min (degree + e) (limit + 1)) }
 {
     match exponent {
@@ -131,7 +132,7 @@ fn capped(limit: u32, degree: u32, exponent: Option<u32>) -> u32
 /// The sum of the exponents of one letter, where it is at most 1,000. No exponent is above 1,000.
 pub fn letter_exponent(word: &[u8], letter: u8) -> Option<u16>
     requires small { has_large_exponent word.now ≡ false }
-    ensures { result ≡ at_most 1000 (letter_exponent_in (exponents word.now) letter) }
+    ensures { result ≡ at_most max_exponent (letter_exponent_in (exponents word.now) letter) }
 {
     let mut sum: u32 = 0;
     let mut rest = word;

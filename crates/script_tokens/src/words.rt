@@ -1,6 +1,7 @@
 //! Words and numerals.
 
 ghost use Rattle.std.specs.Prelude.{◌≡◌, true, drop};
+ghost use Rattle.local_order.specs.Limits.{max_exponent};
 ghost use Rattle.prime_field.specs.Decimal.{AreDigits, value_of};
 ghost use Rattle.script_grammar.specs.Tokens.{is_digit, is_letter};
 ghost use Rattle.script_grammar.specs.Words.{is_same, is_one_of, keywords, is_numeral as is_numeral_word, is_named as is_named_word};
@@ -100,7 +101,7 @@ fn is_later_keyword(word: &[u8]) -> bool
 
 /// The number, where it is at most 1,000.
 pub fn small(digits: &[u8]) -> Option<u32>
-    ensures { result ≡ at_most 1000 (value_of digits.now) }
+    ensures { result ≡ at_most max_exponent (value_of digits.now) }
 {
     number_within(MAX_EXPONENT, digits)
 }

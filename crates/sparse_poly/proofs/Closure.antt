@@ -7,7 +7,7 @@ use Rattle.local_order.specs.Mono.{degree}
 use Rattle.sparse_poly.specs.Poly.{Poly, total, IsIn, IsCanonical, term_times, times, one, combination}
 use Rattle.sparse_poly.specs.Canonical.{canonical}
 use Rattle.sparse_poly.specs.Ideal.{Problem, IsInIdeal, HasCanonicalCofactors}
-use Rattle.sparse_poly.specs.Span.{scale, linear, Span, Agree, IsMultiple, AreMultiples}
+use Rattle.sparse_poly.specs.Span.{scale, linear, Span, Agree, IsMultipleOfGenerator, AreMultiples}
 use Rattle.sparse_poly.proofs.Canonical.{IsCanonical-canonical, coef-canonical}
 use Rattle.sparse_poly.proofs.Coef.{total-append}
 use Rattle.sparse_poly.proofs.Member.{agree, cut_same, agree-append, AllIn, combination-none, combination-term_times, IsInIdeal-zero, IsInIdeal-add, IsInIdeal-term_times, IsInIdeal-agree}
@@ -101,14 +101,14 @@ pub span_of_ideal : (P : Problem) (rows : List Poly) (g : Poly) → AllIn P.n P.
 span_of_ideal P rows g gens are member = span_of_in P rows g gens (all_multiples P rows P.gens are.complete) member
 
 -- a combination of members is one
-linear-member : (P : Problem) (c : ℕ → ℕ) (rows : List Poly) → AllIn P.n P.gens → All (IsMultiple P) rows → IsInIdeal P (linear c rows)
+linear-member : (P : Problem) (c : ℕ → ℕ) (rows : List Poly) → AllIn P.n P.gens → All (IsMultipleOfGenerator P) rows → IsInIdeal P (linear c rows)
 linear-member P c [] gens h = IsInIdeal-zero P
 linear-member P c (r ∷ rows) gens h =
     IsInIdeal-add P (scale (c 0) r) (linear (λ i. c (suc i)) rows)
-    (member (All-head (IsMultiple P) r rows h))
-    (linear-member P (λ i. c (suc i)) rows gens (All-tail (IsMultiple P) r rows h))
+    (member (All-head (IsMultipleOfGenerator P) r rows h))
+    (linear-member P (λ i. c (suc i)) rows gens (All-tail (IsMultipleOfGenerator P) r rows h))
   where
-    member : IsMultiple P r → IsInIdeal P (scale (c 0) r)
+    member : IsMultipleOfGenerator P r → IsInIdeal P (scale (c 0) r)
     member (f, a, there, l, e) =
         let i : IsIn P.n f = in_of_contains P.n P.gens f there.0 gens there.1 there.2 in
         subst (λ s. IsInIdeal P (scale (c 0) s)) (sym e)

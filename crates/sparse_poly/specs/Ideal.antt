@@ -1,5 +1,6 @@
 -- The ideal of a problem modulo degree d + 1, and what is to be computed of it.
 use Rattle.std.specs.Prelude.{◌≡◌, ℕ, ◌≤◌, ◌≢◌, ◌↔◌, List, [], ◌∷◌, length, All, Contains}
+use Rattle.local_order.specs.Limits.{max_degree, max_generators, max_monomials, max_variables}
 use Rattle.std.specs.List.{AllZip}
 use Rattle.prime_field.specs.Prime.{InTable}
 use Rattle.local_order.specs.Mono.{degree, Divides}
@@ -19,13 +20,13 @@ pub record Problem : Type 0 where
 pub record IsProblem (P : Problem) : Type 0 where
   pub prime : InTable P.p
   pub some : 1 ≤ P.n
-  pub few : P.n ≤ 8
+  pub few : P.n ≤ max_variables
   pub degree_some : 1 ≤ P.d
-  pub degree_few : P.d ≤ 255
-  pub monomials : monomial_count P.n P.d ≤ 4096
+  pub degree_few : P.d ≤ max_degree
+  pub monomials : monomial_count P.n P.d ≤ max_monomials
   pub canonical : All (IsCanonical P.p P.n) P.gens
   pub low : All (HasDegreeAtMost P.d) P.gens
-  pub few_gens : length P.gens ≤ 64
+  pub few_gens : length P.gens ≤ max_generators
 
 -- f is in the ring in n variables modulo p, and of degree at most d
 pub record IsGenerator (p n d : ℕ) (f : Polynomial) : Type 0 where

@@ -1,5 +1,6 @@
 -- The letters of variables.
 use Rattle.std.specs.Prelude.{◌≡◌, ◌≢◌, ℕ, ◌-◌, ◌<◌, ◌≤◌, List, ◌++◌, length, take, replicate, All, AllPairs}
+use Rattle.local_order.specs.Limits.{max_variables}
 use Rattle.std.specs.Char.{IsAsciiAlphabetic}
 use Rattle.std.proofs.Common.{get_or, arith}
 use Rattle.std.proofs.lemmas.List.{length-take-le}
@@ -8,7 +9,7 @@ use Rattle.local_order.specs.Stored.{filled_with_zeros}
 -- one to eight different ASCII letters
 pub record AreLetters (l : List ℕ) : Type 0 where
   pub some : 1 ≤ length l
-  pub few : length l ≤ 8
+  pub few : length l ≤ max_variables
   pub letters : All IsAsciiAlphabetic l
   pub different : AllPairs (λ a b. a ≢ b) l
 
@@ -16,7 +17,7 @@ pub record AreLetters (l : List ℕ) : Type 0 where
 -- the letters, then zeros
 pub record AreStored (bytes : List ℕ) (count : ℕ) : Type 0 where
   pub full : length bytes ≡ 8
-  pub few : count ≤ 8
+  pub few : count ≤ max_variables
   pub rest : (k : ℕ) → count ≤ k → get_or bytes k 0 ≡ 0
   pub letters : AreLetters (take count bytes)
 

@@ -23,10 +23,10 @@ pub record Span (P : Problem) (rows : List Poly) (g : Poly) : Type 0 where
   pub equation : Agree P g (linear factor rows)
 
 -- r is the multiple of a generator by a monomial
-abbrev pub IsMultiple : Problem → Poly → Type 0
-IsMultiple P r = (f : Poly) × (a : List ℕ) × Contains P.gens f × (length a ≡ P.n) × (r ≡ term_times 1 a f)
+abbrev pub IsMultipleOfGenerator : Problem → Poly → Type 0
+IsMultipleOfGenerator P r = (f : Poly) × (a : List ℕ) × Contains P.gens f × (length a ≡ P.n) × (r ≡ term_times 1 a f)
 
 -- the rows are multiples of generators by monomials, and all with monomials of degree at most d are there
 pub record AreMultiples (P : Problem) (rows : List Poly) : Type 0 where
-  pub multiples : All (IsMultiple P) rows
+  pub multiples : All (IsMultipleOfGenerator P) rows
   pub complete : (f : Poly) (a : List ℕ) → Contains P.gens f → length a ≡ P.n → degree a ≤ P.d → Contains rows (term_times 1 a f)

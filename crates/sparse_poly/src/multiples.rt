@@ -1,6 +1,7 @@
 //! Multiples of polynomials by one term, and terms one by one.
 
 ghost use Rattle.std.specs.Prelude.{◌≡◌, ℕ, ◌<◌, ◌≤◌, [], ◌++◌, length, IfOk, OnOk};
+ghost use Rattle.local_order.specs.Limits.{max_exponent};
 ghost use Rattle.sparse_poly.specs.Poly.{cut, term_times, IsCanonical};
 ghost use Rattle.sparse_poly.specs.Canonical.{canonical, in_front};
 
@@ -48,7 +49,7 @@ pub(crate) fn multiple(
 ) -> Result<Vec<PolyTerm>, AllocError>
     requires own { IsCanonical field.now (length factor.now.mono) terms.now }
     requires residue { factor.now.coef < field.now }
-    requires degree { degree ≤ 1000 }
+    requires degree { degree ≤ max_exponent }
     ensures { IfOk result (λ v.
         v.items ≡ canonical field.now (cut degree (term_times factor.now.coef factor.now.mono terms.now))) }
 {

@@ -1,6 +1,7 @@
 //! Polynomials: their making and reading.
 
 ghost use Rattle.std.specs.Prelude.{◌≡◌, ℕ, ◌<◌, ◌≤◌, ◌↔◌, [], length, IfOk, IsTrue, slice_get, Some};
+ghost use Rattle.local_order.specs.Limits.{max_variables};
 ghost use Rattle.sparse_poly.specs.Poly.{IsCanonical, IsIn, IsSorted};
 ghost use Rattle.sparse_poly.specs.Canonical.{canonical};
 
@@ -20,20 +21,21 @@ pub struct Poly {
 
 impl Model for Poly {
     ghost use Rattle.std.specs.Prelude.{◌≤◌};
+    ghost use Rattle.local_order.specs.Limits.{max_variables};
     ghost use Rattle.sparse_poly.specs.Poly.{Polynomial, IsSorted};
 
     ghost Value = { Polynomial };
 
     ghost view = { λ f. record { n = f.n; terms = f.terms.items } };
 
-    ghost invariant = { λ f. (1 ≤ f.n) × (f.n ≤ 8) × IsSorted f.n f.terms.items };
+    ghost invariant = { λ f. (1 ≤ f.n) × (f.n ≤ max_variables) × IsSorted f.n f.terms.items };
 }
 
 impl Poly {
     /// The polynomial 0 in `n` variables.
     pub fn zero(alloc: Global, n: u32) -> Poly
         requires some { 1 ≤ n }
-        requires few { n ≤ 8 }
+        requires few { n ≤ max_variables }
         ensures { result ≡ record { n = n; terms = [] } }
     {
         Poly {
@@ -50,7 +52,7 @@ impl Poly {
         terms: Vec<PolyTerm>,
     ) -> Result<Poly, AllocError>
         requires some { 1 ≤ n }
-        requires few { n ≤ 8 }
+        requires few { n ≤ max_variables }
         requires own { IsIn n terms.items }
         ensures value { IfOk result (λ f. f ≡ record { n = n; terms = canonical field.now terms.items }) }
         ensures canonical { IfOk result (λ f. IsCanonical field.now f.n f.terms) }

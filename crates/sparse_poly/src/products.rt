@@ -1,6 +1,7 @@
 //! Products and powers of polynomials, without the terms above a degree.
 
 ghost use Rattle.std.specs.Prelude.{◌≡◌, ℕ, ◌≤◌, IfOk};
+ghost use Rattle.local_order.specs.Limits.{max_exponent, max_variables};
 ghost use Rattle.sparse_poly.specs.Poly.{cut, times, one, power, HasResidues, IsCanonical};
 ghost use Rattle.sparse_poly.specs.Canonical.{canonical};
 
@@ -25,7 +26,7 @@ impl Poly {
         requires own { HasResidues field.now self.now.terms }
         requires other { HasResidues field.now other.now.terms }
         requires one_n { other.now.n ≡ self.now.n }
-        requires degree { degree ≤ 1000 }
+        requires degree { degree ≤ max_exponent }
         ensures value { IfOk result (λ f. f ≡ record {
           n = self.now.n;
           terms = canonical field.now (cut degree (times self.now.terms other.now.terms));
@@ -46,7 +47,7 @@ impl Poly {
         degree: u32,
     ) -> Result<Poly, AllocError>
         requires own { HasResidues field.now self.now.terms }
-        requires degree { degree ≤ 1000 }
+        requires degree { degree ≤ max_exponent }
         ensures value { IfOk result (λ f. f ≡ record {
           n = self.now.n;
           terms = canonical field.now (cut degree (power self.now.n self.now.terms exponent));
@@ -72,7 +73,7 @@ impl Poly {
 /// The polynomial 1 in `n` variables.
 fn one(alloc: Global, field: &Field, n: u32) -> Result<Poly, AllocError>
     requires some { 1 ≤ n }
-    requires few { n ≤ 8 }
+    requires few { n ≤ max_variables }
     ensures value { IfOk result (λ f. f ≡ record { n = n; terms = one n }) }
     ensures canonical { IfOk result (λ f. IsCanonical field.now f.n f.terms) }
 {
@@ -95,7 +96,7 @@ fn product(
     degree: u32,
 ) -> Result<Vec<PolyTerm>, AllocError>
     requires factors { (n : ℕ) × IsCanonical field.now n mine.now × IsCanonical field.now n its.now }
-    requires degree { degree ≤ 1000 }
+    requires degree { degree ≤ max_exponent }
     ensures { IfOk result (λ v. v.items ≡ canonical field.now (cut degree (times mine.now its.now))) }
 {
     match mine {

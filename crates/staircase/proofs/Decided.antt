@@ -11,7 +11,7 @@ use Rattle.local_order.specs.Mono.{mono_times, Divides}
 use Rattle.local_order.specs.Shape.{Shape, count}
 use Rattle.local_order.proofs.Order.{divides_cases}
 use Rattle.mono_rank.specs.Rank.{HasRank}
-use Rattle.mono_rank.specs.Cover.{IsMultiple, Covers, IsCorner}
+use Rattle.mono_rank.specs.Cover.{IsMultipleOfRanks, Covers, IsCorner}
 use Rattle.mono_rank.proofs.Walk.{walk}
 use Rattle.mono_rank.proofs.Ranks.{rank_low, rank_reached, one_of_rank}
 use Rattle.staircase.specs.Stair.{IsRising, IsStairOf}
@@ -48,16 +48,16 @@ one_decided T l m some e = go (cases_lt l (count T))
             wrong M = let D : Divides (walk T.variables l) m = subst (λ k. Divides k m) (one_of_rank T M.0 (walk T.variables l) l M.1 h) M.2 in none D.0 D.1 D.2
 
 -- whether some lead does
-pub multiple_decided : (T : Shape) (leads m : List ℕ) → 1 ≤ T.variables → length m ≡ T.variables → IsMultiple T leads m ⊎ (¬ IsMultiple T leads m)
+pub multiple_decided : (T : Shape) (leads m : List ℕ) → 1 ≤ T.variables → length m ≡ T.variables → IsMultipleOfRanks T leads m ⊎ (¬ IsMultipleOfRanks T leads m)
 multiple_decided T [] m some e = inr (λ M. absurd (let l : M.2.0 < 0 = M.2.1 in omega (arith, l)))
 multiple_decided T (l ∷ leads) m some e = go (one_decided T l m some e) (multiple_decided T leads m some e)
   where
-    go : IsMultipleOf T l m ⊎ (¬ IsMultipleOf T l m) → IsMultiple T leads m ⊎ (¬ IsMultiple T leads m) → IsMultiple T (l ∷ leads) m ⊎ (¬ IsMultiple T (l ∷ leads) m)
+    go : IsMultipleOf T l m ⊎ (¬ IsMultipleOf T l m) → IsMultipleOfRanks T leads m ⊎ (¬ IsMultipleOfRanks T leads m) → IsMultipleOfRanks T (l ∷ leads) m ⊎ (¬ IsMultipleOfRanks T (l ∷ leads) m)
     go (inl M) o = inl (l, M.0, (0, omega arith, refl), M.1, M.2)
     go (inr never) (inl M) = inl (M.0, M.1, in_rest l M.0 leads M.2, M.3, M.4)
     go (inr never) (inr none) = inr (λ M. here M (first_or_rest l M.0 leads M.2))
       where
-        here : (M : IsMultiple T (l ∷ leads) m) → (l ≡ M.0) ⊎ Contains leads M.0 → ⊥
+        here : (M : IsMultipleOfRanks T (l ∷ leads) m) → (l ≡ M.0) ⊎ Contains leads M.0 → ⊥
         here M (inl f) = never (M.1, subst (HasRank T M.1) (sym f) M.3, M.4)
         here M (inr c) = none (M.0, M.1, c, M.3, M.4)
 
@@ -66,7 +66,7 @@ multiple_decided T (l ∷ leads) m some e = go (one_decided T l m some e) (multi
 covers_from : (T : Shape) (leads ranks : List ℕ) (v : ℕ) → 1 ≤ T.variables → IsStairOf T leads ranks → ((r : ℕ) → Contains ranks r → r < v) → Covers T leads v
 covers_from T leads ranks v some S behind m r l h = go (multiple_decided T leads m some h.in_ring)
   where
-    go : IsMultiple T leads m ⊎ (¬ IsMultiple T leads m) → IsMultiple T leads m
+    go : IsMultipleOfRanks T leads m ⊎ (¬ IsMultipleOfRanks T leads m) → IsMultipleOfRanks T leads m
     go (inl M) = M
     go (inr never) = absurd (omega (arith, behind r ((S.exactly r).1 (m, h, never))))
 
@@ -74,7 +74,7 @@ covers_from T leads ranks v some S behind m r l h = go (multiple_decided T leads
 below_corner : (T : Shape) (leads ranks : List ℕ) (w r : ℕ) → IsStairOf T leads ranks → IsCorner T leads w → Contains ranks r → r < w
 below_corner T leads ranks w r S C c = go (cases_lt r w)
   where
-    has : (m : List ℕ) × HasRank T m r × (¬ IsMultiple T leads m)
+    has : (m : List ℕ) × HasRank T m r × (¬ IsMultipleOfRanks T leads m)
     has = (S.exactly r).0 c
 
     go : (r < w) ⊎ (w ≤ r) → r < w

@@ -8,11 +8,11 @@ use Rattle.std.proofs.lemmas.List.Elements.{All-get_or, All-push, All-weaker, Al
 use Rattle.local_order.specs.Mono.{Divides}
 use Rattle.local_order.specs.Shape.{Shape, count}
 use Rattle.mono_rank.specs.Rank.{HasRank, fewer}
-use Rattle.mono_rank.specs.Cover.{IsMultiple}
+use Rattle.mono_rank.specs.Cover.{IsMultipleOfRanks}
 use Rattle.mono_rank.proofs.Walk.{walk}
 use Rattle.mono_rank.proofs.Ranks.{rank_low, rank_reached}
 use Rattle.mono_rank.specs.Stored.{HasLimits}
-use Rattle.staircase.specs.Stair.{IsRising, IsStairOf, HasFirsts, IsKept}
+use Rattle.staircase.specs.Stair.{IsRising, IsStairOf, HasFirsts, IsStairKept}
 
 -- ---- one rank
 -- none of the leads before place i divides the monomial of the rank
@@ -35,7 +35,7 @@ none_more T leads rank i l b N e f says j k m g h r D = go (cases_lt j i)
 -- where one does, the monomial is a multiple
 pub one_divides : (T : Shape) (leads : List ℕ) (rank i l : ℕ) (b : Bool) → 1 ≤ T.variables → All (λ l. l < count T) leads → i < length leads → l ≡ get_or leads i 0 → b ≡ true →
     ((x y : List ℕ) → HasRank T x l → HasRank T y rank → IsTrue b ↔ Divides x y) →
-    (m : List ℕ) → HasRank T m rank → IsTrue true ↔ IsMultiple T leads m
+    (m : List ℕ) → HasRank T m rank → IsTrue true ↔ IsMultipleOfRanks T leads m
 one_divides T leads rank i l b some low there e f says m h = (λ t. (l, walk T.variables l, subst (Contains leads) (sym e) (Contains-get_or leads i 0 there), has, (says (walk T.variables l) m has h).0 f), λ M. refl)
   where
     has : HasRank T (walk T.variables l) l
@@ -43,10 +43,10 @@ one_divides T leads rank i l b some low there e f says m h = (λ t. (l, walk T.v
 
 -- where none does, it is none
 pub none_divides : (T : Shape) (leads : List ℕ) (rank i : ℕ) → NoneDivides T leads rank i → length leads ≤ i → (m : List ℕ) → HasRank T m rank →
-    IsTrue false ↔ IsMultiple T leads m
+    IsTrue false ↔ IsMultipleOfRanks T leads m
 none_divides T leads rank i N all m h = (λ (t : IsTrue false). absurd (let w : false ≡ true = t in cc (w)), λ M. absurd (no M))
   where
-    no : IsMultiple T leads m → ⊥
+    no : IsMultipleOfRanks T leads m → ⊥
     no M =
         let is : get_or leads M.2.0 0 ≡ M.0 = get_or_default leads M.2.0 0 M.0 M.2.1 ∙ M.2.2 in
         N M.2.0 M.1 m (omega (arith, M.2.1)) (subst (HasRank T M.1) (sym is) M.3) h M.4
@@ -56,7 +56,7 @@ none_divides T leads rank i N all m h = (λ (t : IsTrue false). absurd (let w : 
 pub record IsStairUpTo (T : Shape) (leads : List ℕ) (ranks : List ℕ) (i : ℕ) : Type 0 where
   pub rises : IsRising ranks
   pub low : All (λ r. r < i) ranks
-  pub exactly : (m : List ℕ) (r : ℕ) → r < i → HasRank T m r → Contains ranks r ↔ (¬ IsMultiple T leads m)
+  pub exactly : (m : List ℕ) (r : ℕ) → r < i → HasRank T m r → Contains ranks r ↔ (¬ IsMultipleOfRanks T leads m)
 
 -- at first there are none
 pub stair_first : (T : Shape) (leads : List ℕ) → IsStairUpTo T leads [] 0
@@ -81,7 +81,7 @@ rising_push ranks r R low = record { rising = λ i j l k. go i j l (omega (arith
         omega (arith, left i (omega arith), at, All-get_or (λ k. k < r) ranks i 0 (omega arith) low)
 
 -- the next rank is that of no multiple, and joins
-pub stair_joins : (T : Shape) (leads ranks u : List ℕ) (i : ℕ) → IsStairUpTo T leads ranks i → ((m : List ℕ) → HasRank T m i → IsTrue false ↔ IsMultiple T leads m) →
+pub stair_joins : (T : Shape) (leads ranks u : List ℕ) (i : ℕ) → IsStairUpTo T leads ranks i → ((m : List ℕ) → HasRank T m i → IsTrue false ↔ IsMultipleOfRanks T leads m) →
     u ≡ ranks ++ i ∷ [] → IsStairUpTo T leads u (i + 1)
 stair_joins T leads ranks u i S none e = subst (λ s. IsStairUpTo T leads s (i + 1)) (sym e) (record {
   rises = rising_push ranks i S.rises S.low;
@@ -89,10 +89,10 @@ stair_joins T leads ranks u i S none e = subst (λ s. IsStairUpTo T leads s (i +
   exactly = λ m r l h. go m r l h (cases_lt r i);
 })
   where
-    go : (m : List ℕ) (r : ℕ) → r < i + 1 → HasRank T m r → (r < i) ⊎ (i ≤ r) → Contains (ranks ++ i ∷ []) r ↔ (¬ IsMultiple T leads m)
+    go : (m : List ℕ) (r : ℕ) → r < i + 1 → HasRank T m r → (r < i) ⊎ (i ≤ r) → Contains (ranks ++ i ∷ []) r ↔ (¬ IsMultipleOfRanks T leads m)
     go m r l h (inl a) = (λ c. old c (Contains-push_cases ranks i r c), λ no. Contains-append_left ranks (i ∷ []) r ((S.exactly m r a h).1 no))
       where
-        old : Contains (ranks ++ i ∷ []) r → Contains ranks r ⊎ (i ≡ r) → ¬ IsMultiple T leads m
+        old : Contains (ranks ++ i ∷ []) r → Contains ranks r ⊎ (i ≡ r) → ¬ IsMultipleOfRanks T leads m
         old c (inl b) = (S.exactly m r a h).0 b
         old c (inr b) = absurd (omega (arith, b))
     go m r l h (inr a) =
@@ -100,7 +100,7 @@ stair_joins T leads ranks u i S none e = subst (λ s. IsStairUpTo T leads s (i +
         (λ c M. absurd (let w : false ≡ true = (none m (subst (HasRank T m) same h)).1 M in cc (w)), λ no. subst (Contains (ranks ++ i ∷ [])) (sym same) (Contains-push ranks i))
 
 -- the next rank is that of a multiple, and is left out
-pub stair_leaves : (T : Shape) (leads ranks u : List ℕ) (i : ℕ) → IsStairUpTo T leads ranks i → ((m : List ℕ) → HasRank T m i → IsTrue true ↔ IsMultiple T leads m) →
+pub stair_leaves : (T : Shape) (leads ranks u : List ℕ) (i : ℕ) → IsStairUpTo T leads ranks i → ((m : List ℕ) → HasRank T m i → IsTrue true ↔ IsMultipleOfRanks T leads m) →
     u ≡ ranks → IsStairUpTo T leads u (i + 1)
 stair_leaves T leads ranks u i S some e = subst (λ s. IsStairUpTo T leads s (i + 1)) (sym e) (record {
   rises = S.rises;
@@ -108,7 +108,7 @@ stair_leaves T leads ranks u i S some e = subst (λ s. IsStairUpTo T leads s (i 
   exactly = λ m r l h. go m r l h (cases_lt r i);
 })
   where
-    go : (m : List ℕ) (r : ℕ) → r < i + 1 → HasRank T m r → (r < i) ⊎ (i ≤ r) → Contains ranks r ↔ (¬ IsMultiple T leads m)
+    go : (m : List ℕ) (r : ℕ) → r < i + 1 → HasRank T m r → (r < i) ⊎ (i ≤ r) → Contains ranks r ↔ (¬ IsMultipleOfRanks T leads m)
     go m r l h (inl a) = S.exactly m r a h
     go m r l h (inr a) =
         let same : r ≡ i = omega arith in
@@ -118,13 +118,13 @@ stair_leaves T leads ranks u i S some e = subst (λ s. IsStairUpTo T leads s (i 
 pub stair_last : (T : Shape) (leads ranks : List ℕ) (i : ℕ) → 1 ≤ T.variables → i ≡ count T → IsStairUpTo T leads ranks i → IsStairOf T leads ranks
 stair_last T leads ranks i some e S = record { rises = S.rises; exactly = λ r. (there r, back r) }
   where
-    there : (r : ℕ) → Contains ranks r → (m : List ℕ) × HasRank T m r × (¬ IsMultiple T leads m)
+    there : (r : ℕ) → Contains ranks r → (m : List ℕ) × HasRank T m r × (¬ IsMultipleOfRanks T leads m)
     there r c =
         let l : r < i = All-contains (λ k. k < i) ranks r S.low c in
         let h : HasRank T (walk T.variables r) r = rank_reached T r some (omega arith) in
         (walk T.variables r, h, (S.exactly (walk T.variables r) r l h).0 c)
 
-    back : (r : ℕ) → (m : List ℕ) × HasRank T m r × (¬ IsMultiple T leads m) → Contains ranks r
+    back : (r : ℕ) → (m : List ℕ) × HasRank T m r × (¬ IsMultipleOfRanks T leads m) → Contains ranks r
     back r M = (S.exactly M.0 r (omega (arith, e, rank_low T M.0 M.1.in_ring M.1.low, M.1.rank)) M.1).1 M.2
 
 -- its ranks are below the number of monomials
@@ -137,8 +137,8 @@ stair_low T leads ranks S = λ k z l. at k z l
         omega (arith, rank_low T has.0 has.1.in_ring has.1.low, has.1.rank)
 
 -- what is picked over a table can be kept
-pub kept_over : (T M : Shape) (leads ranks firsts : List ℕ) → M ≡ T → HasLimits T → IsStairOf T leads ranks → HasFirsts T firsts → IsKept M ranks firsts
-kept_over T M leads ranks firsts e L S F = subst (λ x. IsKept x ranks firsts) (sym e) (record { limits = L; rises = S.rises; low = stair_low T leads ranks S; starts = F })
+pub kept_over : (T M : Shape) (leads ranks firsts : List ℕ) → M ≡ T → HasLimits T → IsStairOf T leads ranks → HasFirsts T firsts → IsStairKept M ranks firsts
+kept_over T M leads ranks firsts e L S F = subst (λ x. IsStairKept x ranks firsts) (sym e) (record { limits = L; rises = S.rises; low = stair_low T leads ranks S; starts = F })
 
 -- rising numbers are at least as great as their places
 rising_long : (ranks : List ℕ) → IsRising ranks → (i : ℕ) → i < length ranks → i ≤ get_or ranks i 0

@@ -8,7 +8,7 @@ use Rattle.std.proofs.lemmas.List.Elements.{Contains-get_or}
 use Rattle.local_order.specs.Mono.{degree}
 use Rattle.sparse_poly.specs.Shape.{shape_of}
 use Rattle.mono_rank.specs.Rank.{HasRank, rank_of, mono_of_rank}
-use Rattle.mono_rank.specs.Cover.{IsMultiple}
+use Rattle.mono_rank.specs.Cover.{IsMultipleOfRanks}
 use Rattle.mono_rank.proofs.ByRank.{mono_of_rank-is}
 use Rattle.mono_rank.proofs.Ranks.{rank_above, above_of_rank}
 use Rattle.sparse_poly.specs.Ideal.{Problem, IsGreater, IsLeadOfIdeal, IsFalling, IsStaircase, Fits, IsFirstMissing}
@@ -43,18 +43,18 @@ falls P (a ∷ b ∷ rs) h has = (first, falls P (b ∷ rs) (rising_rest a (b �
 
 module _ (P : Problem) (leads ranks : List ℕ) (some : 1 ≤ P.n) (shown : ShowLeads P leads) (S : IsStairOf (shape_of P) leads ranks) where
   -- each rank of the staircase is that of a monomial that is no multiple
-  ranked : (r : ℕ) → Contains ranks r → HasRank (shape_of P) (mono_of_rank (shape_of P) r) r × (¬ IsMultiple (shape_of P) leads (mono_of_rank (shape_of P) r))
+  ranked : (r : ℕ) → Contains ranks r → HasRank (shape_of P) (mono_of_rank (shape_of P) r) r × (¬ IsMultipleOfRanks (shape_of P) leads (mono_of_rank (shape_of P) r))
   ranked r c =
       let x = (S.exactly r).0 c in
       let same : x.0 ≡ mono_of_rank (shape_of P) r = sym (mono_of_rank-is (shape_of P) x.0 r x.1) in
-      (subst (λ m. HasRank (shape_of P) m r) same x.1, subst (λ m. ¬ IsMultiple (shape_of P) leads m) same x.2)
+      (subst (λ m. HasRank (shape_of P) m r) same x.1, subst (λ m. ¬ IsMultipleOfRanks (shape_of P) leads m) same x.2)
 
   -- so it is no lead of the ideal
   no_lead : (r : ℕ) → Contains ranks r → IsLeadOfIdeal P (mono_of_rank (shape_of P) r) → ⊥
   no_lead r c h = let x = ranked r c in x.1 ((shown (mono_of_rank (shape_of P) r) x.0.in_ring x.0.low).0 h)
 
   -- a monomial that is no lead has its rank in the staircase
-  in_stair : (m : List ℕ) → length m ≡ P.n → degree m ≤ P.d → (IsMultiple (shape_of P) leads m → ⊥) → Contains ranks (rank_of (shape_of P) m)
+  in_stair : (m : List ℕ) → length m ≡ P.n → degree m ≤ P.d → (IsMultipleOfRanks (shape_of P) leads m → ⊥) → Contains ranks (rank_of (shape_of P) m)
   in_stair m e low never = (S.exactly (rank_of (shape_of P) m)).1 (m, record { in_ring = e; low = low; rank = refl }, never)
 
   -- the monomials of the ranks are the staircase of the ideal
@@ -74,7 +74,7 @@ module _ (P : Problem) (leads ranks : List ℕ) (some : 1 ≤ P.n) (shown : Show
   lead_or_in : (m : List ℕ) → length m ≡ P.n → degree m ≤ P.d → (Contains ranks (rank_of (shape_of P) m) → ⊥) → IsLeadOfIdeal P m
   lead_or_in m e low out = (shown m e low).1 (go (multiple_decided (shape_of P) leads m some e))
     where
-      go : IsMultiple (shape_of P) leads m ⊎ (¬ IsMultiple (shape_of P) leads m) → IsMultiple (shape_of P) leads m
+      go : IsMultipleOfRanks (shape_of P) leads m ⊎ (¬ IsMultipleOfRanks (shape_of P) leads m) → IsMultipleOfRanks (shape_of P) leads m
       go (inl M) = M
       go (inr never) = absurd (out (in_stair m e low never))
 

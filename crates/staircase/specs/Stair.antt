@@ -2,7 +2,7 @@
 use Rattle.std.specs.Prelude.{◌≡◌, ℕ, suc, ◌+◌, ◌<◌, ◌≤◌, ◌↔◌, List, length, get_or, All, Contains, Bool, ◌==◌}
 use Rattle.mono_rank.specs.Rank.{HasRank, mono_of_rank, fewer}
 use Rattle.mono_rank.specs.Stored.{HasLimits}
-use Rattle.mono_rank.specs.Cover.{IsMultiple}
+use Rattle.mono_rank.specs.Cover.{IsMultipleOfRanks}
 use Rattle.local_order.specs.Mono.{degree}
 use Rattle.local_order.specs.Shape.{Shape, count}
 use Rattle.sparse_poly.specs.Shape.{shape_of}
@@ -20,7 +20,7 @@ pub record IsRising (ranks : List ℕ) : Type 0 where
 -- the ranks of the monomials that are multiples of no lead, rising
 pub record IsStairOf (T : Shape) (leads : List ℕ) (ranks : List ℕ) : Type 0 where
   pub rises : IsRising ranks
-  pub exactly : (r : ℕ) → Contains ranks r ↔ ((m : List ℕ) × HasRank T m r × ¬ IsMultiple T leads m)
+  pub exactly : (r : ℕ) → Contains ranks r ↔ ((m : List ℕ) × HasRank T m r × ¬ IsMultipleOfRanks T leads m)
 
 -- whether the monomial of rank r has degree e
 abbrev pub is_of_degree : Shape → ℕ → ℕ → Bool
@@ -38,7 +38,7 @@ pub record HasFirsts (T : Shape) (firsts : List ℕ) : Type 0 where
   pub each : (e : ℕ) → e < T.degree + 2 → get_or firsts e 0 ≡ fewer T.variables e
 
 -- what is kept: rising ranks below the number of monomials, and the first ranks
-pub record IsKept (T : Shape) (ranks firsts : List ℕ) : Type 0 where
+pub record IsStairKept (T : Shape) (ranks firsts : List ℕ) : Type 0 where
   pub limits : HasLimits T
   pub rises : IsRising ranks
   pub low : All (λ r. r < count T) ranks
@@ -46,4 +46,4 @@ pub record IsKept (T : Shape) (ranks firsts : List ℕ) : Type 0 where
 
 -- the leads of the ideal are the multiples of the leads with these ranks
 abbrev pub ShowLeads : Problem → List ℕ → Type 0
-ShowLeads P leads = (m : List ℕ) → length m ≡ P.n → degree m ≤ P.d → IsLeadOfIdeal P m ↔ IsMultiple (shape_of P) leads m
+ShowLeads P leads = (m : List ℕ) → length m ≡ P.n → degree m ≤ P.d → IsLeadOfIdeal P m ↔ IsMultipleOfRanks (shape_of P) leads m

@@ -3,7 +3,7 @@
 ghost use Rattle.std.specs.Prelude.{◌≡◌, ℕ, List, ◌+◌, ◌<◌, ◌≤◌, ◌↔◌, All, Contains, count_by, nat_lt, nat_le, ◌&&◌, IsTrue, IfOk, MatchOption};
 ghost use Rattle.local_order.specs.Shape.{count};
 ghost use Rattle.mono_rank.specs.Rank.{HasRank};
-ghost use Rattle.mono_rank.specs.Cover.{IsMultiple};
+ghost use Rattle.mono_rank.specs.Cover.{IsMultipleOfRanks};
 ghost use Rattle.staircase.specs.Stair.{IsRising, IsStairOf, HasFirsts};
 
 use mono_rank::RankTable;
@@ -15,7 +15,7 @@ pub(crate) fn is_multiple(table: &RankTable, leads: &[u32], rank: u32) -> bool
     requires leads { All (λ l. l < count table.now) leads.now }
     requires low { rank < count table.now }
     ensures { (m : List ℕ) → HasRank table.now m rank
-        → IsTrue result ↔ IsMultiple table.now leads.now m }
+        → IsTrue result ↔ IsMultipleOfRanks table.now leads.now m }
 {
     for lead in leads {
         if table.divides_rank(*lead, rank) {

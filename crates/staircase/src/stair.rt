@@ -23,13 +23,13 @@ pub struct Stair {
 }
 
 impl Model for Stair {
-    ghost use Rattle.staircase.specs.Stair.{Stairs, IsKept};
+    ghost use Rattle.staircase.specs.Stair.{Stairs, IsStairKept};
 
     ghost Value = { Stairs };
 
     ghost view = { λ s. record { shape = record { variables = s.n; degree = s.d }; ranks = s.ranks } };
 
-    ghost invariant = { λ s. IsKept (record { variables = s.n; degree = s.d }) s.ranks s.firsts.items };
+    ghost invariant = { λ s. IsStairKept (record { variables = s.n; degree = s.d }) s.ranks s.firsts.items };
 }
 
 impl Stair {
