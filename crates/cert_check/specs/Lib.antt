@@ -1,0 +1,5 @@
+pub mod Block
+pub mod Accepted
+pub mod Right
+pub mod Checks
+pub mod Fault

@@ -1,0 +1,36 @@
+//! The laws of accepted blocks. Each is a call that does nothing, and whose contract is the law.
+
+ghost use Rattle.std.specs.Prelude.{◌≡◌, ◌↔◌, ◌⊎◌, ℕ, List, All};
+ghost use Rattle.mora_law.specs.Ring.{IsAdmissible};
+ghost use Rattle.cert_check.specs.declared.reason.Reason.{Reason};
+ghost use Rattle.cert_check.specs.Block.{Block, IsRead};
+ghost use Rattle.cert_check.specs.Accepted.{IsAcceptedBlock};
+ghost use Rattle.cert_check.specs.Right.{IsRight};
+ghost use Rattle.cert_check.specs.Checks.{checks, Holds};
+ghost use Rattle.cert_check.specs.Fault.{IsFirstFault, IsFirstFaultOf};
+
+/// Whoever wrote it: the answer of an accepted block is the one that the ideal of its problem determines.
+pub fn accepted_is_right()
+    ensures { (b : Block) → IsAdmissible b.problem → IsAcceptedBlock b → IsRight b.problem b.answer b.corner }
+{}
+
+/// A block that was read is accepted exactly where all its checks hold.
+pub fn accepted_where_checks_hold()
+    ensures { (b : Block) → IsRead b → IsAcceptedBlock b ↔ All (Holds b) (checks b) }
+{}
+
+/// A block that was read has a first fault exactly where it isn't accepted, and one alone.
+pub fn first_fault()
+    ensures some { (b : Block) → IsRead b → IsAcceptedBlock b ⊎ ((line : ℕ) × (reason : Reason) × IsFirstFault b line reason) }
+    ensures refuses { (b : Block) (line : ℕ) (reason : Reason) → IsRead b → IsFirstFault b line reason → IsAcceptedBlock b → ⊥ }
+    ensures one { (b : Block) (line other : ℕ) (reason why : Reason) → IsFirstFault b line reason → IsFirstFault b other why
+        → (line ≡ other) × (reason ≡ why) }
+{}
+
+/// So it is with a certificate whose blocks were read: all are accepted, or it has a first fault.
+pub fn first_fault_of_all()
+    ensures some { (bs : List Block) → All IsRead bs
+        → All IsAcceptedBlock bs ⊎ ((line : ℕ) × (reason : Reason) × IsFirstFaultOf bs line reason) }
+    ensures refuses { (bs : List Block) (line : ℕ) (reason : Reason) → All IsRead bs → IsFirstFaultOf bs line reason
+        → All IsAcceptedBlock bs → ⊥ }
+{}
