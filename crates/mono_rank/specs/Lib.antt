@@ -4,3 +4,4 @@ pub mod Stored
 pub mod Table
 pub mod Laws
 pub mod Cover
+pub mod Rows

@@ -9,10 +9,10 @@ use Rattle.sparse_poly.specs.Shape.{shape_of}
 use Rattle.mono_rank.specs.Rank.{mono_of_rank}
 use Rattle.mono_rank.specs.Laws.{numbering, rank_cofactor}
 use Rattle.mono_rank.proofs.ByRank.{rank-mono_of_rank}
-use Rattle.sparse_poly.specs.Poly.{Poly, Polynomial, in_variables, IsCanonical, total}
+use Rattle.sparse_poly.specs.Poly.{Poly, Polynomial, in_variables, IsCanonical, total, coef}
 use Rattle.sparse_poly.specs.Ideal.{Problem, IsProblem}
-use Rattle.trunc_row.specs.Rows.{SubtractsMultiple}
-use Rattle.trunc_row.specs.Polynomials.{IsRowOf}
+use Rattle.rank_algebra.specs.Rows.{vector_of_row}
+use Rattle.mono_rank.specs.Rows.{SubtractsMultiple, IsRowOf}
 use Rattle.rank_algebra.specs.Vector.{Same, shift, less, Agree}
 use Rattle.rank_algebra.specs.Division.{pair}
 use Rattle.mora_law.specs.Ring.{numbering_of, ranks_of_problem, vector_of, generators_of}
@@ -24,7 +24,6 @@ use Rattle.ecart.specs.declared.summary.Summary.{Summary}
 use Rattle.ecart.specs.Choice.{summary_at}
 use Rattle.mora_form.specs.Reducers.{row_at}
 use Rattle.mora_form.specs.State.{ring}
-use Rattle.trunc_row.specs.Vectors.{vector_of_row}
 use Rattle.mora_form.specs.Begin.{basis_in}
 use Rattle.mora_law.specs.Start.{start_of}
 use Rattle.mora_form.proofs.Vectors.{ring_of_problem, ring_p, ring_count, ring_cofactor, subtract_vector}
@@ -56,7 +55,7 @@ generator_is P n g gens f h e k l =
     }
 
 -- the row of a generator is its vector
-pub generator_row : (P : Problem) (T : Shape) (g : ℕ) (f : Poly) (r : List ℕ) → 1 ≤ T.variables → shape_of P ≡ T → f ≡ get_or P.gens g [] → IsRowOf P.p T f r
+pub generator_row : (P : Problem) (T : Shape) (g : ℕ) (f : Poly) (r : List ℕ) → 1 ≤ T.variables → shape_of P ≡ T → f ≡ get_or P.gens g [] → IsRowOf P.p T (coef P.p f) r
     → Agree (ranks_of_problem P) (count T) (vector_of_row r) (vector_of P (get_or P.gens g []))
 generator_row P T g f r some e q h = record {
   at = λ x l. subst (λ p. Same p (get_or r x 0) (total (get_or P.gens g []) ((numbering_of P).mono x))) (sym (ranks_p P))

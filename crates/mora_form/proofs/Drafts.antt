@@ -7,14 +7,13 @@ use Rattle.prime_field.specs.Prime.{InTable}
 use Rattle.prime_field.specs.Inverse.{inverse}
 use Rattle.local_order.specs.Shape.{Shape, count}
 use Rattle.entry_code.specs.declared.term.Term.{Term}
-use Rattle.trunc_row.specs.Rows.{IsRow, BeginsAt}
+use Rattle.rank_algebra.specs.Rows.{IsRow, BeginsAt, vector_of_row}
 use Rattle.trunc_row.proofs.Residues.{row_mod}
 use Rattle.rank_algebra.specs.Vector.{Vector, scale}
 use Rattle.mora_law.specs.Lead.{is_none_at}
 use Rattle.mora_law.specs.Entries.{terms_of, monic_by, monic}
 use Rattle.mora_law.proofs.Terms.{term_by, terms_from, terms_walk}
 use Rattle.mora_form.specs.State.{ring}
-use Rattle.trunc_row.specs.Vectors.{vector_of_row}
 use Rattle.mora_form.proofs.Vectors.{ring_p, ring_count, ring_inverse, lead_of_row}
 
 -- with the terms from a rank on the list has all terms

@@ -9,7 +9,7 @@ use Rattle.mono_rank.specs.Stored.{HasLimits}
 use Rattle.entry_code.specs.Entry.{HasRoom}
 use Rattle.entry_code.specs.declared.item.Item.{Item}
 use Rattle.entry_code.specs.declared.reading.Reading.{Reading}
-use Rattle.trunc_row.specs.Rows.{IsRow}
+use Rattle.rank_algebra.specs.Rows.{IsRow}
 use Rattle.mora_form.specs.declared.reducers.Reducers.{Reducers}
 use Rattle.mora_form.specs.declared.mora.Mora.TheInside.{Inside}
 use Rattle.mora_form.specs.Reducers.{HasPlaces}

@@ -11,7 +11,7 @@ use Rattle.mono_rank.specs.Laws.{numbering, rank_quotient}
 use Rattle.rank_algebra.specs.Ranks.{Ranks}
 use Rattle.mono_rank.proofs.ByRank.{rank-mono_of_rank}
 use Rattle.mono_rank.proofs.Numbers.{quotient_of_ranks}
-use Rattle.trunc_row.specs.Rows.{IsRow}
+use Rattle.rank_algebra.specs.Rows.{IsRow, vector_of_row}
 use Rattle.rank_algebra.specs.Vector.{Vector, nothing}
 use Rattle.rank_algebra.proofs.Linear.{agree_refl}
 use Rattle.mora_law.specs.declared.step_end.StepEnd.TheVariants.{Reduced, Stuck}
@@ -24,7 +24,6 @@ use Rattle.ecart.specs.declared.choice.Choice.TheVariants.{Entry, Kept}
 use Rattle.ecart.specs.Choice.{no_summary, summary_at, ecart_of, IsSummary, IsChoice, IsNoChoice}
 use Rattle.mora_form.specs.Reducers.{row_at, AreRows, IsSummaryOf, AreSummarized}
 use Rattle.mora_form.specs.State.{ring, entry_vector}
-use Rattle.trunc_row.specs.Vectors.{vector_of_row}
 use Rattle.mora_form.specs.Chosen.{IsThere, chosen_summary, chosen_row, with_kept}
 use Rattle.mora_form.specs.Reduction.{IsReduced, IsStepOn}
 use Rattle.mora_form.proofs.Vectors.{ring_quotient, lead_of_row}

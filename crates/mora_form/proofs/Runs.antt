@@ -15,7 +15,8 @@ use Rattle.entry_code.specs.declared.item.Item.TheVariants.{Generator, Pair}
 use Rattle.entry_code.specs.declared.reading.Reading.{Reading}
 use Rattle.entry_code.specs.declared.term.Term.{Term}
 use Rattle.entry_code.specs.Entry.{Entry, no_entry, entry_at}
-use Rattle.trunc_row.specs.Rows.{IsRow, BeginsAt, term_coef, IsRowOfTerms}
+use Rattle.rank_algebra.specs.Rows.{IsRow, BeginsAt, vector_of_row}
+use Rattle.trunc_row.specs.Rows.{term_coef, IsRowOfTerms}
 use Rattle.rank_algebra.specs.Vector.{Vector, scale, shift, less, Agree}
 use Rattle.rank_algebra.specs.Division.{pair}
 use Rattle.mora_law.specs.Ring.{ranks_of_problem, generators_of}
@@ -37,7 +38,6 @@ use Rattle.ecart.specs.declared.summary.Summary.{Summary}
 use Rattle.ecart.specs.Choice.{summary_at}
 use Rattle.mora_form.specs.Reducers.{row_at, AreSummarized}
 use Rattle.mora_form.specs.State.{State, ring, ring_of, entry_vector, run_in, Knows, IsOver, HasRun, AreMonicTerms, draft_in, draft_of}
-use Rattle.trunc_row.specs.Vectors.{vector_of_row}
 use Rattle.mora_form.specs.Begin.{basis_in}
 use Rattle.mora_form.proofs.Vectors.{ring_of_problem, ring_p, ring_count, ring_inverse, ring_laws}
 

@@ -11,7 +11,7 @@ use Rattle.rank_algebra.specs.Ranks.{Ranks}
 use Rattle.sparse_poly.specs.Ideal.{Problem}
 use Rattle.entry_code.specs.declared.reading.Reading.{Reading}
 use Rattle.entry_code.specs.Entry.{Entry}
-use Rattle.trunc_row.specs.Rows.{IsRow, IsZeroRow, BeginsAt, IsCutAt}
+use Rattle.rank_algebra.specs.Rows.{IsRow, IsZeroRow, BeginsAt, IsCutAt, vector_of_row}
 use Rattle.rank_algebra.specs.Vector.{Vector, cut_at}
 use Rattle.mora_law.specs.Ring.{ranks_of_problem}
 use Rattle.rank_algebra.proofs.Linear.{agree_trans}
@@ -27,7 +27,6 @@ use Rattle.mora_law.specs.Alike.{AllAlike, RunAlike}
 use Rattle.mora_law.proofs.Alike.{step_alike}
 use Rattle.mora_law.proofs.Readings.{steps_more, stuck_dropped}
 use Rattle.mora_form.specs.State.{State, ring, ring_of, entry_vector, run_in, without_last, is_stuck, recorded, Knows, HasRun}
-use Rattle.trunc_row.specs.Vectors.{vector_of_row}
 use Rattle.mora_form.specs.Held.{HasGone}
 use Rattle.mora_form.specs.Reduction.{IsAdvance, goes_on, steps_after}
 use Rattle.mora_form.proofs.Readings.{without_last-append}

@@ -7,13 +7,13 @@ use Rattle.prime_field.specs.Inverse.{inverse}
 use Rattle.local_order.specs.Shape.{Shape, count}
 use Rattle.mono_rank.specs.Laws.{numbering, rank_quotient}
 use Rattle.rank_algebra.specs.Ranks.{IsRanks}
-use Rattle.trunc_row.specs.Rows.{IsRow, BeginsAt, SubtractsMultiple}
+use Rattle.rank_algebra.specs.Rows.{IsRow, BeginsAt, vector_of_row}
+use Rattle.mono_rank.specs.Rows.{SubtractsMultiple}
 use Rattle.trunc_row.proofs.Residues.{row_small, row_mod}
 use Rattle.rank_algebra.specs.Vector.{Same, coef_at, shift}
 use Rattle.rank_algebra.proofs.Residues.{same_refl, same_of, same_trans, same_add, same_mul, same_times, same_gone, same_mod}
 use Rattle.rank_algebra.proofs.Linear.{agree_trans, inverse_same}
 use Rattle.mora_form.specs.State.{ring}
-use Rattle.trunc_row.specs.Vectors.{vector_of_row}
 use Rattle.mora_form.specs.Reduction.{IsReduced}
 use Rattle.mora_form.proofs.Vectors.{ring_p, ring_count, ring_quotient, ring_inverse, ring_laws, residue_same, begins_lead, subtract_vector}
 

@@ -10,7 +10,8 @@ use Rattle.local_order.specs.Shape.{Shape, count}
 use Rattle.mono_rank.specs.Rank.{mono_of_rank}
 use Rattle.mono_rank.proofs.ByRank.{rank-mono_of_rank, mono_of_rank-is}
 use Rattle.mono_rank.proofs.Ranks.{rank_small}
-use Rattle.trunc_row.specs.Rows.{IsRow, IsZeroRow, BeginsAt, HasTopDegree}
+use Rattle.rank_algebra.specs.Rows.{IsRow, IsZeroRow, BeginsAt, vector_of_row}
+use Rattle.mono_rank.specs.Rows.{HasTopDegree}
 use Rattle.trunc_row.proofs.Residues.{row_mod}
 use Rattle.mora_law.specs.Lead.{ecart, top_degree, is_none_at}
 use Rattle.rank_algebra.proofs.Searches.{greatest_low, greatest_high}
@@ -18,7 +19,6 @@ use Rattle.ecart.specs.declared.summary.Summary.{Summary}
 use Rattle.ecart.specs.Choice.{ecart_of}
 use Rattle.mora_form.specs.Reducers.{IsSummaryOf}
 use Rattle.mora_form.specs.State.{ring}
-use Rattle.trunc_row.specs.Vectors.{vector_of_row}
 use Rattle.mora_form.proofs.Vectors.{ring_p, ring_count, ring_degree, lead_of_row}
 
 -- a row that begins has a top degree

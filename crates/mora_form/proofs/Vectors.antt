@@ -17,7 +17,8 @@ use Rattle.mono_rank.proofs.ByRank.{rank-mono_of_rank}
 use Rattle.mono_rank.proofs.Quotients.{IsOver, over_is}
 use Rattle.mono_rank.proofs.Numbers.{quotient_of_ranks}
 use Rattle.sparse_poly.specs.Ideal.{Problem}
-use Rattle.trunc_row.specs.Rows.{IsRow, IsZeroRow, BeginsAt, SubtractsMultiple}
+use Rattle.rank_algebra.specs.Rows.{IsRow, IsZeroRow, BeginsAt, vector_of_row}
+use Rattle.mono_rank.specs.Rows.{SubtractsMultiple}
 use Rattle.trunc_row.proofs.Residues.{row_small}
 use Rattle.rank_algebra.specs.Vector.{Same, nothing, coef_at, shift, less, Agree}
 use Rattle.mora_law.specs.Ring.{numbering_of, ranks_of_problem}
@@ -28,7 +29,6 @@ use Rattle.mora_law.proofs.Ring.{ranks_are}
 use Rattle.mora_law.specs.Lead.{lead}
 use Rattle.mora_law.proofs.Choice.{lead_some, lead_is}
 use Rattle.mora_form.specs.State.{ring}
-use Rattle.trunc_row.specs.Vectors.{vector_of_row}
 use Rattle.mora_form.proofs.Quotients.{quotient_fits}
 
 -- ---- the ring

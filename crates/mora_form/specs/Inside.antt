@@ -4,7 +4,7 @@ use Rattle.prime_field.specs.Prime.{InTable}
 use Rattle.local_order.specs.Shape.{Shape, count}
 use Rattle.mono_rank.specs.Stored.{HasLimits}
 use Rattle.entry_code.specs.Entry.{entry_of, HasRoom}
-use Rattle.trunc_row.specs.Rows.{IsRow}
+use Rattle.rank_algebra.specs.Rows.{IsRow}
 use Rattle.mora_law.specs.declared.step_end.StepEnd.TheVariants.{Zero, Stuck}
 use Rattle.mora_form.specs.Held.{AreReducers, HasGone}
 use Rattle.mora_form.specs.State.{State, recorded, draft_in}

@@ -10,8 +10,8 @@ use Rattle.entry_code.specs.declared.term.Term.{Term}
 use Rattle.entry_code.specs.Entry.{Entry, entry_at}
 use Rattle.rank_algebra.specs.Vector.{Vector, Agree}
 use Rattle.mora_law.specs.Ring.{ranks_of_problem}
-use Rattle.trunc_row.specs.Vectors.{vector_of_row}
-use Rattle.trunc_row.specs.Rows.{BeginsAt, HasRisingRanks}
+use Rattle.rank_algebra.specs.Rows.{vector_of_row, BeginsAt}
+use Rattle.trunc_row.specs.Rows.{HasRisingRanks}
 use Rattle.mora_law.specs.declared.step_end.StepEnd.{StepEnd}
 use Rattle.mora_law.specs.declared.step_end.StepEnd.TheVariants.{Zero, Reduced, Stuck}
 use Rattle.mora_law.specs.Step.{Run}

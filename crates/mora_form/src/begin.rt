@@ -3,13 +3,12 @@
 ghost use Rattle.std.specs.Prelude.{◌≡◌, ◌<◌, ◌≤◌, length};
 ghost use Rattle.local_order.specs.Shape.{count};
 ghost use Rattle.sparse_poly.specs.Shape.{shape_of};
-ghost use Rattle.trunc_row.specs.Rows.{IsRow};
+ghost use Rattle.rank_algebra.specs.Rows.{IsRow, vector_of_row};
 ghost use Rattle.rank_algebra.specs.Vector.{Agree};
 ghost use Rattle.mora_law.specs.Ring.{ranks_of_problem, generators_of};
 ghost use Rattle.mora_law.specs.Legal.{IsItemOf};
 ghost use Rattle.mora_law.specs.Start.{start_of};
 ghost use Rattle.mora_form.specs.Reducers.{AreRows, AreSummarized};
-ghost use Rattle.trunc_row.specs.Vectors.{vector_of_row};
 ghost use Rattle.mora_form.specs.Begin.{basis_in};
 
 use crate::products::cofactor_rank;

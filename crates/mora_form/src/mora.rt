@@ -5,7 +5,8 @@ ghost use Rattle.local_order.specs.Shape.{count};
 ghost use Rattle.sparse_poly.specs.Ideal.{Problem as IdealProblem};
 ghost use Rattle.entry_code.specs.Entry.{Entry as EntryRecord, entry_of};
 ghost use Rattle.entry_code.specs.declared.item.Item.TheVariants.{Generator};
-ghost use Rattle.trunc_row.specs.Rows.{IsRow, IsRowOfTerms};
+ghost use Rattle.rank_algebra.specs.Rows.{IsRow, vector_of_row};
+ghost use Rattle.trunc_row.specs.Rows.{IsRowOfTerms};
 ghost use Rattle.rank_algebra.specs.Vector.{Agree};
 ghost use Rattle.mora_law.specs.declared.step_end.StepEnd.TheVariants.{Zero, Reduced, Stuck};
 ghost use Rattle.mora_law.specs.Alike.{RunAlike};
@@ -13,7 +14,6 @@ ghost use Rattle.mora_law.specs.Step.{step};
 ghost use Rattle.mora_law.specs.Start.{start};
 ghost use Rattle.mora_law.specs.Legal.{IsItemOf};
 ghost use Rattle.mora_form.specs.State.{ring_of, entry_vector, run_in, Knows, IsOver, HasRun, recorded, AreMonicTerms, draft_in, draft_of};
-ghost use Rattle.trunc_row.specs.Vectors.{vector_of_row};
 
 use crate::begin::begin;
 use crate::draft::draft_when_stuck;

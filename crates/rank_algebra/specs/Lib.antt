@@ -3,3 +3,4 @@ pub mod Vector
 pub mod Combination
 pub mod Division
 pub mod Ideal
+pub mod Rows

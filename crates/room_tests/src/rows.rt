@@ -1,7 +1,7 @@
 //! Rows that were worked out by hand, modulo 7 in x and y up to degree 4.
 
 ghost use Rattle.std.specs.Prelude.{◌≡◌, IfOk};
-ghost use Rattle.trunc_row.specs.Rows.{IsRow};
+ghost use Rattle.rank_algebra.specs.Rows.{IsRow};
 
 use crate::build::{Written, field, has_terms, poly};
 use mono_rank::RankTable;

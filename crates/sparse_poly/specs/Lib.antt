@@ -4,3 +4,4 @@ pub mod Ideal
 pub mod Span
 pub mod Letters
 pub mod Shape
+pub mod Degree

@@ -6,7 +6,7 @@ use Rattle.local_order.specs.Shape.{count}
 use Rattle.sparse_poly.specs.Shape.{shape_of}
 use Rattle.rank_algebra.specs.Ranks.{Ranks}
 use Rattle.sparse_poly.specs.Ideal.{Problem}
-use Rattle.trunc_row.specs.Rows.{IsRow, IsCutAt}
+use Rattle.rank_algebra.specs.Rows.{IsRow, IsCutAt}
 use Rattle.rank_algebra.specs.Vector.{Same, Vector, cut_at, shift, less}
 use Rattle.rank_algebra.specs.Division.{Basis, Hit, first_lead, remove, remove_by, remainder, remainder_from}
 use Rattle.mora_law.specs.Ring.{ranks_of_problem}

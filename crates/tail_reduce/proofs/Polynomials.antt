@@ -9,8 +9,7 @@ use Rattle.std.proofs.lemmas.List.Elements.{All-head, All-tail}
 use Rattle.local_order.specs.Shape.{count}
 use Rattle.sparse_poly.specs.Shape.{shape_of}
 use Rattle.sparse_poly.specs.Ideal.{Problem}
-use Rattle.trunc_row.specs.Rows.{IsRow}
-use Rattle.trunc_row.specs.Vectors.{vector_of_row}
+use Rattle.rank_algebra.specs.Rows.{IsRow, vector_of_row}
 use Rattle.trunc_row.specs.Polynomials.{terms_from, poly_of_row}
 use Rattle.rank_algebra.specs.Vector.{Vector, Agree}
 use Rattle.mora_law.specs.Ring.{numbering_of, ranks_of_problem}

@@ -9,7 +9,7 @@ use Rattle.local_order.specs.Shape.{count}
 use Rattle.sparse_poly.specs.Shape.{shape_of}
 use Rattle.rank_algebra.specs.Ranks.{IsRanks}
 use Rattle.sparse_poly.specs.Ideal.{Problem}
-use Rattle.trunc_row.specs.Rows.{IsRow}
+use Rattle.rank_algebra.specs.Rows.{IsRow}
 use Rattle.trunc_row.proofs.Residues.{row_set}
 use Rattle.entry_code.specs.declared.term.Term.{Term}
 use Rattle.rank_algebra.specs.Vector.{Same, Vector, coef_at, shift, less}

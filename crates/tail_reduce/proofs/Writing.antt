@@ -7,7 +7,7 @@ use Rattle.std.proofs.lemmas.List.{take_all}
 use Rattle.local_order.specs.Shape.{count}
 use Rattle.sparse_poly.specs.Shape.{shape_of}
 use Rattle.sparse_poly.specs.Ideal.{Problem}
-use Rattle.trunc_row.specs.Rows.{IsRow}
+use Rattle.rank_algebra.specs.Rows.{IsRow}
 use Rattle.trunc_row.proofs.Residues.{row_set}
 use Rattle.entry_code.specs.declared.term.Term.{Term}
 use Rattle.mora_law.specs.Entries.{vector_of_terms}

@@ -5,7 +5,7 @@ ghost use Rattle.local_order.specs.Shape.{count};
 ghost use Rattle.sparse_poly.specs.Shape.{shape_of};
 ghost use Rattle.sparse_poly.specs.Poly.{in_variables};
 ghost use Rattle.sparse_poly.specs.Ideal.{IsProblem};
-ghost use Rattle.trunc_row.specs.Rows.{IsRow, IsZeroRow};
+ghost use Rattle.rank_algebra.specs.Rows.{IsRow, IsZeroRow};
 ghost use Rattle.rank_algebra.specs.Division.{corner_of};
 ghost use Rattle.mora_law.specs.Ring.{ranks_of_problem};
 ghost use Rattle.mora_law.specs.Entries.{basis_of, terms_of, poly_of_terms};

@@ -4,7 +4,7 @@ ghost use Rattle.std.specs.Prelude.{◌≡◌, ℕ, ◌<◌, ◌≤◌, length, 
 ghost use Rattle.local_order.specs.Shape.{count};
 ghost use Rattle.sparse_poly.specs.Shape.{shape_of};
 ghost use Rattle.sparse_poly.specs.Ideal.{IsProblem};
-ghost use Rattle.trunc_row.specs.Rows.{IsRow, IsZeroRow, IsCutAt};
+ghost use Rattle.rank_algebra.specs.Rows.{IsRow, IsZeroRow, IsCutAt};
 ghost use Rattle.rank_algebra.specs.Vector.{Vector, shift, less};
 ghost use Rattle.rank_algebra.specs.Division.{remainder};
 ghost use Rattle.mora_law.specs.Ring.{ranks_of_problem};

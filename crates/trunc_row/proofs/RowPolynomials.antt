@@ -9,9 +9,10 @@ use Rattle.local_order.proofs.Order.{same_self, same-false}
 use Rattle.mono_rank.specs.Rank.{HasRank, mono_of_rank}
 use Rattle.mono_rank.proofs.Ranks.{one_rank, above_of_rank}
 use Rattle.mono_rank.proofs.ByRank.{mono_of_rank-is, rank-mono_of_rank}
-use Rattle.sparse_poly.specs.Poly.{total, IsAboveFirst, IsCanonical}
-use Rattle.trunc_row.specs.Rows.{IsRow}
-use Rattle.trunc_row.specs.Polynomials.{IsRowOf, terms_from, poly_of_row}
+use Rattle.sparse_poly.specs.Poly.{total, IsAboveFirst, IsCanonical, coef}
+use Rattle.rank_algebra.specs.Rows.{IsRow}
+use Rattle.mono_rank.specs.Rows.{IsRowOf}
+use Rattle.trunc_row.specs.Polynomials.{terms_from, poly_of_row}
 use Rattle.trunc_row.proofs.Residues.{row_mod}
 
 -- ---- one residue more
@@ -105,7 +106,7 @@ module _ (T : Shape) (some : 1 ≤ T.variables) where
   row_canonical p r h = terms_canonical p 0 r h.residues (omega (arith, h.full))
 
   -- the row is that of its polynomial
-  pub row_of_poly : (p : ℕ) (r : List ℕ) → IsRow p (count T) r → IsRowOf p T (poly_of_row T r) r
+  pub row_of_poly : (p : ℕ) (r : List ℕ) → IsRow p (count T) r → IsRowOf p T (coef p (poly_of_row T r)) r
   row_of_poly p r h = record {
     row = h;
     coefs = λ m k hm. sym (ap (λ x. x % p) (total_at m k 0 r (subst (HasRank T m) (sym (none_more k)) hm) (omega (arith, h.full))) ∙ row_mod p (count T) r k h);

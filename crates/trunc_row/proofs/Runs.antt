@@ -1,7 +1,8 @@
 -- A run of residues subtracted place by place: the places before the next one are done, and the others are as they were.
 -- A residue that is 0 leaves its place as it is.
 use Rattle.std.proofs.Common.{◌≡◌, ℕ, ◌+◌, ◌-◌, ◌*◌, ◌%◌, ◌<◌, List, length, get_or, set, refl, ap, ◌∙◌, arith, below_more, get_or-set_other, get_or-set_same}
-use Rattle.trunc_row.specs.Rows.{IsRow, SubtractsRun}
+use Rattle.rank_algebra.specs.Rows.{IsRow}
+use Rattle.trunc_row.specs.Rows.{SubtractsRun}
 use Rattle.trunc_row.proofs.Residues.{row_set, row_mod, less_none}
 
 -- nothing is subtracted yet

@@ -2,9 +2,10 @@
 
 ghost use Rattle.std.specs.Prelude.{◌≡◌, ℕ, ◌+◌, ◌<◌, ◌≤◌, length};
 ghost use Rattle.local_order.specs.Shape.{count};
-ghost use Rattle.sparse_poly.specs.Poly.{HasResidues};
-ghost use Rattle.trunc_row.specs.Rows.{IsRow, IsScaled, Subtracts, SubtractsRun, SubtractsMultiple, HasRisingRanks, IsRowOfTerms};
-ghost use Rattle.trunc_row.specs.Polynomials.{IsRowOf};
+ghost use Rattle.sparse_poly.specs.Poly.{HasResidues, coef};
+ghost use Rattle.rank_algebra.specs.Rows.{IsRow, IsScaled, Subtracts};
+ghost use Rattle.mono_rank.specs.Rows.{SubtractsMultiple, IsRowOf};
+ghost use Rattle.trunc_row.specs.Rows.{SubtractsRun, HasRisingRanks, IsRowOfTerms};
 
 use entry_code::Terms;
 use mono_rank::RankTable;
@@ -15,7 +16,7 @@ use sparse_poly::Poly;
 pub(crate) fn write(row: &mut [u32], table: &RankTable, poly: &Poly)
     requires places { length row.old ≡ count table.now }
     requires variables { poly.now.n ≡ table.now.variables }
-    ensures { (p : ℕ) → 0 < p → HasResidues p poly.now.terms → IsRowOf p table.now poly.now.terms row.new }
+    ensures { (p : ℕ) → 0 < p → HasResidues p poly.now.terms → IsRowOf p table.now (coef p poly.now.terms) row.new }
 {
     row.fill(0);
     for term in poly.terms() {

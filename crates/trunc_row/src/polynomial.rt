@@ -2,9 +2,10 @@
 
 ghost use Rattle.std.specs.Prelude.{◌≡◌, length, IfOk};
 ghost use Rattle.local_order.specs.Shape.{count};
-ghost use Rattle.sparse_poly.specs.Poly.{IsCanonical, in_variables};
-ghost use Rattle.trunc_row.specs.Rows.{IsRow};
-ghost use Rattle.trunc_row.specs.Polynomials.{IsRowOf, poly_of_row};
+ghost use Rattle.sparse_poly.specs.Poly.{IsCanonical, in_variables, coef};
+ghost use Rattle.rank_algebra.specs.Rows.{IsRow};
+ghost use Rattle.mono_rank.specs.Rows.{IsRowOf};
+ghost use Rattle.trunc_row.specs.Polynomials.{poly_of_row};
 
 use mono_rank::RankTable;
 use prime_field::Field;
@@ -21,7 +22,7 @@ pub fn poly_of(
     requires { IsRow field.now (count table.now) row.now }
     ensures value { IfOk result (λ f. f ≡ in_variables table.now.variables (poly_of_row table.now row.now)) }
     ensures canonical { IfOk result (λ f. IsCanonical field.now table.now.variables f.terms) }
-    ensures polynomial { IfOk result (λ f. IsRowOf field.now table.now f.terms row.now) }
+    ensures polynomial { IfOk result (λ f. IsRowOf field.now table.now (coef field.now f.terms) row.now) }
 {
     let terms = terms_of(alloc, table, row)?;
     Poly::from_terms(alloc, field, table.n(), terms)

@@ -5,11 +5,10 @@ use Rattle.local_order.specs.Shape.{Shape, count}
 use Rattle.mono_rank.specs.Laws.{numbering, rank_cofactor}
 use Rattle.ecart.specs.Choice.{no_summary, summary_at}
 use Rattle.sparse_poly.proofs.Sorted.{residues_of}
-use Rattle.trunc_row.specs.Rows.{IsRow}
+use Rattle.rank_algebra.specs.Rows.{IsRow, vector_of_row}
 use Rattle.rank_algebra.specs.Vector.{Agree}
 use Rattle.mora_law.specs.Ring.{ranks_of_problem, generators_of}
 use Rattle.mora_law.specs.Start.{start_of}
-use Rattle.trunc_row.specs.Vectors.{vector_of_row}
 use Rattle.mora_form.specs.Begin.{basis_in}
 use Rattle.mora_form.proofs.Begins.{generator_is, generator_row, pair_row, pair_is, got_row, zeros}
 use Rattle.mora_form.proofs.begin.begin.Goals as goal

@@ -1,13 +1,13 @@
 use Rattle.std.proofs.Common.{subst, lit≤}
-use Rattle.sparse_poly.specs.Poly.{HasResidues}
+use Rattle.sparse_poly.specs.Poly.{HasResidues, coef}
 use Rattle.sparse_poly.proofs.Sorted.{residues_of}
-use Rattle.trunc_row.specs.Polynomials.{IsRowOf}
+use Rattle.mono_rank.specs.Rows.{IsRowOf}
 use Rattle.room_tests.proofs.rows.row.Goals as goal
 
 pub returns : goal.returns
 returns c =
     let f = c.in_ok-poly.field-0.terms in
     let residues : HasResidues 7 f = subst (λ p. HasResidues p f) c.requires.field (residues_of _ _ f c.in_ok-poly.ensures.canonical) in
-    let made : IsRowOf 7 (record { variables = 2; degree = 4 }) f c.set_poly.new.self =
-    subst (λ t. IsRowOf 7 t f c.set_poly.new.self) c.requires.table (c.set_poly.ensures 7 (lit≤ tt) residues) in
+    let made : IsRowOf 7 (record { variables = 2; degree = 4 }) (coef 7 f) c.set_poly.new.self =
+    subst (λ t. IsRowOf 7 t (coef 7 f) c.set_poly.new.self) c.requires.table (c.set_poly.ensures 7 (lit≤ tt) residues) in
     made.row

@@ -1,5 +1,6 @@
 use Rattle.std.proofs.Common.{◌≡◌, ◌+◌, ◌-◌, ◌*◌, ◌%◌, length, get_or, sym, subst, arith}
-use Rattle.trunc_row.specs.Rows.{IsRow, SubtractsRun}
+use Rattle.rank_algebra.specs.Rows.{IsRow}
+use Rattle.trunc_row.specs.Rows.{SubtractsRun}
 use Rattle.trunc_row.proofs.Residues.{row_small, less_step}
 use Rattle.trunc_row.proofs.Runs.{run_begins, run_set, run_skip}
 use Rattle.trunc_row.proofs.loops.subtract_run.Goals as goal

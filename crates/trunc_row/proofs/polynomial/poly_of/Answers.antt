@@ -2,11 +2,12 @@ use Rattle.std.proofs.Common.{◌≡◌, ◌<◌, sym, ◌∙◌, ap, subst, ari
 use Rattle.std.proofs.lemmas.Result.{IfOk-weaker}
 use Rattle.local_order.specs.Shape.{count}
 use Rattle.mono_rank.proofs.Pascal.{count_some}
-use Rattle.sparse_poly.specs.Poly.{Polynomial, IsIn, IsCanonical, in_variables}
+use Rattle.sparse_poly.specs.Poly.{Polynomial, IsIn, IsCanonical, in_variables, coef}
 use Rattle.sparse_poly.specs.Canonical.{canonical}
 use Rattle.sparse_poly.proofs.Unique.{in_of_canonical}
 use Rattle.sparse_poly.proofs.Canonical.{canonical_self}
-use Rattle.trunc_row.specs.Polynomials.{IsRowOf, poly_of_row}
+use Rattle.mono_rank.specs.Rows.{IsRowOf}
+use Rattle.trunc_row.specs.Polynomials.{poly_of_row}
 use Rattle.trunc_row.proofs.Residues.{row_small}
 use Rattle.trunc_row.proofs.RowPolynomials.{row_canonical, row_of_poly}
 use Rattle.trunc_row.proofs.polynomial.poly_of.Goals as goal
@@ -48,6 +49,6 @@ returns-clause-polynomial c =
     let T = c.args.table.now in
     let p = c.args.field.now in
     let r = c.args.row.now in
-    IfOk-weaker c.from_terms.result (λ (f : Polynomial). f ≡ in_variables T.variables (poly_of_row T r)) (λ (f : Polynomial). IsRowOf p T f.terms r)
-    (λ f e. subst (λ (g : Polynomial). IsRowOf p T g.terms r) (sym e) (row_of_poly T c.n.ensures.limits.some p r c.requires))
+    IfOk-weaker c.from_terms.result (λ (f : Polynomial). f ≡ in_variables T.variables (poly_of_row T r)) (λ (f : Polynomial). IsRowOf p T (coef p f.terms) r)
+    (λ f e. subst (λ (g : Polynomial). IsRowOf p T (coef p g.terms) r) (sym e) (row_of_poly T c.n.ensures.limits.some p r c.requires))
     (returns-clause-value c)

@@ -5,7 +5,7 @@ use Rattle.mora_law.specs.Ring.{ranks_of_problem, generators_of}
 use Rattle.mora_law.specs.Legal.{IsItemOf}
 use Rattle.mora_law.specs.Start.{start_of, start}
 use Rattle.mora_form.specs.State.{ring_of, Knows, IsOver, HasRun}
-use Rattle.trunc_row.specs.Vectors.{vector_of_row}
+use Rattle.rank_algebra.specs.Rows.{vector_of_row}
 use Rattle.mora_form.specs.Begin.{basis_in}
 use Rattle.mora_form.specs.Inside.{shape_in, state_of}
 use Rattle.mora_form.proofs.Runs.{begun, has_begun}
