@@ -5,11 +5,13 @@
 //! a fault only where the count rose.
 #![tactic(auto)]
 
+mod file;
 mod memory;
 mod standard;
 mod traits;
 mod whole;
 
+pub use file::FileSink;
 pub use memory::{MemSink, MemSource};
 pub use standard::{NoSink, StdSink, StdSource};
 pub use traits::{Failed, Sink, Source};

@@ -1,0 +1,11 @@
+pub mod Tools
+pub mod Forms
+pub mod Phrases
+pub mod RingWords
+pub mod Grammar
+pub mod Parts
+pub mod Whole
+pub mod Texts
+pub mod Refusals
+pub mod Prefixes
+mod Examples

@@ -1,0 +1,9 @@
+pub mod Limits
+pub mod Lines
+pub mod Words
+pub mod Entries
+pub mod Blocks
+pub mod Cert
+pub mod Phrases
+pub mod Reading
+pub mod Form

@@ -1,0 +1,14 @@
+//! Certificates, and the grammar of their texts.
+//!
+//! `specs/` says what a certificate is: `Lines` of a text, `Words` of a ring, `Cert` the lines of each certificate and what
+//! is asked of it, `Form` which bytes are a certificate and at which line others go wrong; `Reading` how a text is read.
+#![tactic(auto)]
+
+mod block;
+mod entry;
+pub mod laws;
+mod ring;
+
+pub use block::{Block, Cert, Fitting, Verdict};
+pub use entry::{Entry, Step, Text};
+pub use ring::Ring;

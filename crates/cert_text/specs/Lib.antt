@@ -1,0 +1,5 @@
+pub mod WordsLeft
+pub mod Cuts
+pub mod Gives
+pub mod Answers
+pub mod Writes
