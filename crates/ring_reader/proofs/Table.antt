@@ -1,7 +1,6 @@
 -- The test for the table of characteristics.
-use Rattle.std.proofs.Common.{◌≡◌, ℕ, true, false, Bool, List, [], ◌∷◌, nat_eq, Option, Some, None, refl, sym, ◌∙◌}
-use Rattle.std.specs.Prelude.{◌==◌, IsSome, ◌↔◌}
-use Rattle.std.specs.Option.{is_some}
+use Rattle.std.proofs.Common.{◌≡◌, ℕ, true, false, Bool, List, [], ◌∷◌, nat_eq, Option, Some, None, refl, sym, subst, ◌∙◌}
+use Rattle.std.specs.Prelude.{◌==◌, IsSome, IfSome, IfNone, ◌↔◌}
 use Rattle.std.specs.List.{list_any}
 use Rattle.std.proofs.lemmas.Bool.{eqb-true}
 use Rattle.std.proofs.lemmas.Cmp.{nat_eq_equiv}
@@ -30,7 +29,17 @@ not_in_table p h = any_turned p table ∙ not_in-by p (list_any (nat_eq p) table
 no_some : (X : Type 0) → IsSome {T = X} None → ⊥
 no_some X e = absurd cc
 
--- the test, by a field that is there or not
-pub tested : (X : Type 0) (r : Option X) (p : ℕ) (b : Bool) → IsSome r ↔ InTable p → b ≡ is_some r → b ≡ list_any (λ q. q == p) table
-tested X (Some f) p b h e = e ∙ sym (in_table p (h.0 refl))
-tested X None p b h e = e ∙ sym (not_in_table p (λ t. no_some X (h.1 t)))
+-- A field that is there has a characteristic that passes the test,
+pub offered_there : (X : Type 0) (r : Option X) (p : ℕ) → IsSome r ↔ InTable p → IfSome r (λ f. list_any (λ q. q == p) table ≡ true)
+offered_there X (Some f) p h = in_table p (h.0 refl)
+offered_there X None p h = tt
+
+-- and it is of the table.
+pub offered_itself : (r : Option ℕ) (p : ℕ) → IsSome r ↔ InTable p → IfSome r (λ f. f ≡ p) → IfSome r (λ f. InTable f)
+offered_itself (Some f) p h e = subst InTable (sym e) (h.0 refl)
+offered_itself None p h e = tt
+
+-- Where no field is there, the number fails the test.
+pub offered_not : (X : Type 0) (r : Option X) (p : ℕ) → IsSome r ↔ InTable p → IfNone r (list_any (λ q. q == p) table ≡ false)
+offered_not X (Some f) p h = tt
+offered_not X None p h = not_in_table p (λ t. no_some X (h.1 t))

@@ -16,7 +16,7 @@ use Rattle.script_grammar.specs.declared.refusal.ReadKind.TheVariants.{Expected}
 use Rattle.script_grammar.specs.Steps.{◌>>=◌, wanted, kind_at}
 use Rattle.script_grammar.specs.Statements.{listed_at, variable_at, variables_at, tail_of, letters_of, letters_at, letter_of, listed_letters}
 use Rattle.ring_reader.specs.declared.stop.Stop.{Stop}
-use Rattle.ring_reader.specs.Gives.{Gives, meant}
+use Rattle.ring_reader.specs.Gives.{Fails, Gives, meant}
 
 -- what the loop still reads makes the whole
 pub record ListedSoFar (ring : List ℕ) (whole : Result (List ℕ × Place) Refusal) (letters : List ℕ) (t : Place) : Type 0 where
@@ -161,3 +161,7 @@ letters_listed ring t start here starts =
 -- what is given of one is given of the same
 pub gives_same : {X Y : Type 0} (view : X → Y) (r : Result X Stop) (read other : Result Y Refusal) → other ≡ read → Gives view r read → Gives view r other
 gives_same view r read other e g = subst (λ (x : Result _ Refusal). Gives view r x) (sym e) g
+
+-- what fails where one is read fails where the same is read
+pub fails_same : {Y : Type 0} (e : Stop) (read other : Result Y Refusal) → other ≡ read → Fails e read → Fails e other
+fails_same e read other same f = subst (Fails e) (sym same) f

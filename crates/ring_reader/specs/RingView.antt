@@ -11,8 +11,11 @@ pub record RingValue : Type 0 where
   pub prime : ℕ
   pub letters : List ℕ
 
+abbrev pub ring_parts : List ℕ → ℕ → List ℕ → RingValue
+ring_parts name prime letters = record { name = name; prime = prime; letters = letters }
+
 abbrev pub ring_of : Seen → RingValue
-ring_of r = record { name = r.name.now; prime = r.prime; letters = r.letters.items }
+ring_of r = ring_parts r.name.now r.field r.letters
 
 abbrev pub ring_value : Ring → RingValue
 ring_value r = record { name = r.name; prime = value_of r.prime; letters = letters_of r.variables }

@@ -22,17 +22,18 @@ use script_tokens::{
     Place, Token, behind, is_keyword, is_letter_byte, is_mark, mark, name, number_within, numeral,
     refused, same, word,
 };
+use sparse_poly::Letters;
 use std::alloc::Global;
 
 /// The greatest characteristic.
 const MAX_PRIME: u32 = 2_147_483_647;
 
-/// A ring: its name, its characteristic and the letters of its variables.
-#[derive(Drop)]
+/// A ring: its name, its field and the letters of its variables.
+#[derive(Clone, Copy)]
 pub(crate) struct Ring<'a> {
     pub(crate) name: &'a [u8],
-    pub(crate) prime: u32,
-    pub(crate) letters: Vec<u8>,
+    pub(crate) field: Field,
+    pub(crate) letters: Letters,
 }
 
 /// The ring's name. Nothing else is declared yet.
@@ -50,37 +51,39 @@ fn ring_name<'a>(here: Place<'a>) -> Result<(&'a [u8], Place<'a>), Refusal>
     Ok((word, behind(here)))
 }
 
-/// The number that a numeral is, where it is in the table of characteristics.
-fn table_prime(digits: &[u8]) -> Option<u32>
-    ensures some { IfSome result (λ p. p ≡ value_of digits.now) }
-    ensures there { IfSome result (λ p. list_any (λ q. q == value_of digits.now) table ≡ true) }
-    ensures offered { IfSome result InTable }
+/// The field of the characteristic that a numeral is, where it is in the table of characteristics.
+fn numeral_field(digits: &[u8]) -> Option<Field>
+    ensures some { IfSome result (λ f. f ≡ value_of digits.now) }
+    ensures there { IfSome result (λ f. list_any (λ q. q == value_of digits.now) table ≡ true) }
+    ensures offered { IfSome result (λ f. InTable f) }
     ensures none { IfNone result (list_any (λ q. q == value_of digits.now) table ≡ false) }
 {
     match number_within(MAX_PRIME, digits) {
-        Some(p) if is_in_table(p) => Some(p),
-        _ => None,
+        Some(p) => table_field(p),
+        None => None,
     }
 }
 
-/// Whether the number is in the table of characteristics.
-fn is_in_table(p: u32) -> bool
-    ensures test { result ≡ list_any (λ q. q == p) table }
-    ensures offered { result ≡ true → InTable p }
+/// The field of a number, where it is in the table of characteristics.
+fn table_field(p: u32) -> Option<Field>
+    ensures value { IfSome result (λ f. f ≡ p) }
+    ensures there { IfSome result (λ f. list_any (λ q. q == p) table ≡ true) }
+    ensures offered { IfSome result (λ f. InTable f) }
+    ensures none { IfNone result (list_any (λ q. q == p) table ≡ false) }
 {
-    Field::of(p).is_some()
+    Field::of(p)
 }
 
 /// The characteristic.
 #[tactic(auto, unfolding(script_grammar::specs::Statements::prime_at))]
-fn characteristic(here: Place<'_>) -> Result<(u32, Place<'_>), Refusal>
+fn characteristic(here: Place<'_>) -> Result<(Field, Place<'_>), Refusal>
     ensures reads { ReadsAs (λ x. (x.0, place_of x.1)) result (meant_number (prime_at (place_of here.entry))) }
     ensures offered { IfOk result (λ x. InTable x.0) }
     ensures shorter { IfOk result (λ x. x.1.left < here.entry.left) }
 {
     let (digits, after) = numeral(here)?;
-    match table_prime(digits) {
-        Some(p) => Ok((p, after)),
+    match numeral_field(digits) {
+        Some(field) => Ok((field, after)),
         None => Err(refused(here, ReadKind::NotAPrime)),
     }
 }
@@ -134,18 +137,30 @@ fn listed<'a>(alloc: Global, ring: &[u8], here: Place<'a>) -> Result<(Vec<u8>, P
     }
 }
 
+/// The letters of these bytes.
+fn letters_of_bytes(bytes: &[u8]) -> Letters
+    requires { AreLetters bytes.now }
+    ensures { result ≡ bytes.now }
+{
+    let Some(letters) = Letters::new(bytes) else {
+        unreachable!()
+    };
+    letters
+}
+
 /// The letters of the variables.
 #[tactic(auto, unfolding(script_grammar::specs::Statements::letters_at))]
-fn letters<'a>(alloc: Global, ring: &[u8], here: Place<'a>) -> Result<(Vec<u8>, Place<'a>), Stop>
-    ensures gives { Gives (λ x. (x.0.items, place_of x.1)) result (meant letters_of (letters_at ring.now (place_of here.entry))) }
-    ensures letters { IfOk result (λ x. AreLetters x.0.items) }
+fn letters<'a>(alloc: Global, ring: &[u8], here: Place<'a>) -> Result<(Letters, Place<'a>), Stop>
+    ensures gives { Gives (λ x. (x.0, place_of x.1)) result (meant letters_of (letters_at ring.now (place_of here.entry))) }
+    ensures letters { IfOk result (λ x. AreLetters x.0) }
     ensures shorter { IfOk result (λ x. x.1.left < here.entry.left) }
 {
     if is_mark(here, b'(') {
-        return listed(alloc, ring, behind(here));
+        let (letters, after) = listed(alloc, ring, behind(here))?;
+        return Ok((letters_of_bytes(&letters), after));
     }
     let (letter, after) = variable(ring, &[], here)?;
-    Ok((Vec::from_slice(alloc, &[letter])?, after))
+    Ok((letters_of_bytes(&[letter]), after))
 }
 
 /// A ring statement, from behind the word `ring` on.
@@ -155,21 +170,27 @@ pub(crate) fn ring_statement<'a>(
     here: Place<'a>,
 ) -> Result<(Ring<'a>, Place<'a>), Stop>
     ensures gives { Gives (λ x. (ring_of x.0, place_of x.1)) result (meant ring_value (ring_at (place_of here.entry))) }
-    ensures offered { IfOk result (λ x. InTable x.0.prime) }
-    ensures letters { IfOk result (λ x. AreLetters x.0.letters.items) }
+    ensures offered { IfOk result (λ x. InTable x.0.field) }
+    ensures letters { IfOk result (λ x. AreLetters x.0.letters) }
     ensures shorter { IfOk result (λ x. x.1.left < here.entry.left) }
 {
     let (name, after) = ring_name(here)?;
     let after = mark(after, b'=', What::Equals)?;
-    let (prime, after) = characteristic(after)?;
+    let (field, after) = match characteristic(after) {
+        Ok(found) => found,
+        Err(refusal) => return Err(Stop::Refused(refusal)),
+    };
     let after = mark(after, b',', What::Comma)?;
-    let (letters, after) = letters(alloc, name, after)?;
+    let (letters, after) = match letters(alloc, name, after) {
+        Ok(found) => found,
+        Err(stop) => return Err(stop),
+    };
     let after = mark(after, b',', What::Comma)?;
     let after = word(after, b"ds", What::Order)?;
     let after = mark(after, b';', What::Semicolon)?;
     let ring = Ring {
         name,
-        prime,
+        field,
         letters,
     };
     Ok((ring, after))

@@ -29,7 +29,6 @@ use crate::ring::{Ring, ring_statement};
 use crate::scope::Scope;
 use crate::statement::{begins_statement, statement};
 use crate::stop::Stop;
-use prime_field::Field;
 use script_grammar::{Command, Commands, ReadKind, Refusal, Script, What};
 use script_tokens::{Place, Token, behind, is_word, next_token, refused};
 use sparse_poly::Letters;
@@ -49,25 +48,23 @@ fn statements(
     d: u32,
     start: Place<'_>,
 ) -> Result<Vec<Command>, Stop>
-    requires offered { InTable ring.now.prime }
-    requires letters { AreLetters ring.now.letters.items }
+    requires offered { InTable ring.now.field }
+    requires letters { AreLetters ring.now.letters }
     requires some { 1 ≤ d }
     requires low { d ≤ max_degree }
-    requires few { monomial_count (length ring.now.letters.items) d ≤ max_monomials }
+    requires few { monomial_count (length ring.now.letters) d ≤ max_monomials }
     ensures gives { Gives (λ v. v.items) result (statements_part (ring_of ring.now) d (place_of start.entry)) }
     ensures asked { IfOk result (λ v. 1 ≤ length v.items) }
-    ensures few { IfOk result (λ v. length v.items ≤ max_commands) }
-    ensures belong { IfOk result (λ v. All (IsCommandIn ring.now.prime (length ring.now.letters.items) d) v.items) }
+    ensures few { IfOk result (λ v. length v.items ≤ 64) }
+    ensures belong { IfOk result (λ v. All (IsCommandIn ring.now.field (length ring.now.letters) d) v.items) }
 {
-    let field = field_of(ring.prime);
-    let letters = letters_of(&ring.letters);
     let mut scope = Scope::new(alloc);
     let mut here = start;
     while !is_over(scope.commands.len(), here) {
         let names = Names {
             ring: ring.name,
-            field,
-            letters,
+            field: ring.field,
+            letters: ring.letters,
             d,
             polys: &scope.polys,
             ideals: &scope.ideals,
@@ -79,30 +76,8 @@ fn statements(
     Ok(scope.commands)
 }
 
-/// The field of a characteristic of the table.
-fn field_of(prime: u32) -> Field
-    requires { InTable prime }
-    ensures { result ≡ prime }
-{
-    let Some(field) = Field::of(prime) else {
-        unreachable!()
-    };
-    field
-}
-
-/// The letters of these bytes.
-fn letters_of(bytes: &[u8]) -> Letters
-    requires { AreLetters bytes.now }
-    ensures { result ≡ bytes.now }
-{
-    let Some(letters) = Letters::new(bytes) else {
-        unreachable!()
-    };
-    letters
-}
-
 /// The noether degree, from the word `noether` on. Another statement there is refused as such.
-fn noether_degree<'a>(letters: &[u8], here: Place<'a>) -> Result<(u32, Place<'a>), Refusal>
+fn noether_degree<'a>(letters: &Letters, here: Place<'a>) -> Result<(u32, Place<'a>), Refusal>
     requires { AreLetters letters.now }
     ensures reads { ReadsAs (λ x. (x.0, place_of x.1)) result (meant degree_of (noether_part letters.now (place_of here.entry))) }
     ensures some { IfOk result (λ x. 1 ≤ x.0) }
@@ -110,7 +85,7 @@ fn noether_degree<'a>(letters: &[u8], here: Place<'a>) -> Result<(u32, Place<'a>
     ensures few { IfOk result (λ x. monomial_count (length letters.now) x.0 ≤ max_monomials) }
 {
     if is_word(here, b"noether") {
-        return noether(&letters_of(letters), behind(here));
+        return noether(letters, behind(here));
     }
     if begins_statement(here) {
         return Err(refused(here, ReadKind::MissingNoether));
@@ -127,13 +102,16 @@ fn script(alloc: Global, here: Place<'_>) -> Result<Script, Stop>
     if !is_word(here, b"ring") {
         return Err(Stop::Refused(refused(here, ReadKind::Expected(What::Ring))));
     }
-    let (ring, after) = ring_statement(alloc, behind(here))?;
+    let (ring, after) = match ring_statement(alloc, behind(here)) {
+        Ok(found) => found,
+        Err(stop) => return Err(stop),
+    };
     let here = remarks(after)?;
     let (d, after) = noether_degree(&ring.letters, here)?;
     let commands = statements(alloc, &ring, d, after)?;
     Ok(Script {
-        names: letters_of(&ring.letters),
-        field: field_of(ring.prime),
+        names: ring.letters,
+        field: ring.field,
         d,
         commands: Commands::from_vec(commands),
     })

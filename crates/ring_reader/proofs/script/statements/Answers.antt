@@ -1,4 +1,4 @@
-use Rattle.std.proofs.Common.{◌≡◌, ◌∙◌, ◌&&◌, nat_le, true, sym, ap, length, arith}
+use Rattle.std.proofs.Common.{◌≡◌, ◌∙◌, ◌&&◌, nat_le, true, refl, sym, length, arith}
 use Rattle.std.proofs.lemmas.Bool.{and_parts, leb-true}
 use Rattle.std.proofs.lemmas.List.Elements.{All-nil}
 use Rattle.script_tokens.specs.PlaceView.{place_of}
@@ -22,24 +22,23 @@ loop-here-init c = record {
 pub returns-in_err-effect-clause-gives : goal.returns-in_err-effect-clause-gives
 returns-in_err-effect-clause-gives c =
     gives_failed _ _ _ _ c.from_residual.ensures.1
-    (script_fails_by (ring_of c.args.ring.now) c.args.d _ c.loop-here.scope.polys.items _ c.loop-here.scope.ideals.items _ c.loop-here.scope.commands.items (place_of c.loop-here.here) _ c.field_of-field.result c.letters_of-letters.result c.len-in-loop-here.result c.len.result
-    c.field_of-field.ensures (c.letters_of-letters.ensures ∙ c.deref.ensures.value) c.deref-in-loop-here.ensures.value c.deref-in-loop-here-2.ensures.value (omega (arith, c.len-in-loop-here.ensures)) (omega (arith, c.len.ensures))
+    (script_fails_by (ring_of c.args.ring.now) c.args.d _ c.loop-here.scope.polys.items _ c.loop-here.scope.ideals.items _ c.loop-here.scope.commands.items (place_of c.loop-here.here) _ c.args.ring.now.field c.args.ring.now.letters c.len-in-loop-here.result c.len.result
+    refl refl c.deref.ensures.value c.deref-in-loop-here.ensures.value (omega (arith, c.len-in-loop-here.ensures)) (omega (arith, c.len.ensures))
     (sym c.is_over.ensures ∙ c.loop-here-test.true) c.in_err-effect.ensures.gives c.loop-here.invariant.so_far)
 
 pub loop-here-preserved : goal.loop-here-preserved
 loop-here-preserved c =
-    let letters = ap length (c.letters_of-letters.ensures ∙ c.deref.ensures.value) in
-    let sound = rw (c.field_of-field.ensures, letters) at c.in_ok-effect.ensures.sound in
+    let sound = c.in_ok-effect.ensures.sound in
     record {
       so_far = rw (c.in_ok-apply.ensures.polys, c.in_ok-apply.ensures.ideals, c.in_ok-apply.ensures.commands)
-          (script_goes_by (ring_of c.args.ring.now) c.args.d _ c.loop-here.scope.polys.items _ c.loop-here.scope.ideals.items _ c.loop-here.scope.commands.items (place_of c.loop-here.here) (place_of c.in_ok-effect.after) c.in_ok-effect.effect c.field_of-field.result c.letters_of-letters.result c.len-in-loop-here.result c.len.result
-          c.field_of-field.ensures (c.letters_of-letters.ensures ∙ c.deref.ensures.value) c.deref-in-loop-here.ensures.value c.deref-in-loop-here-2.ensures.value (omega (arith, c.len-in-loop-here.ensures)) (omega (arith, c.len.ensures))
+          (script_goes_by (ring_of c.args.ring.now) c.args.d _ c.loop-here.scope.polys.items _ c.loop-here.scope.ideals.items _ c.loop-here.scope.commands.items (place_of c.loop-here.here) (place_of c.in_ok-effect.after) c.in_ok-effect.effect c.args.ring.now.field c.args.ring.now.letters c.len-in-loop-here.result c.len.result
+          refl refl c.deref.ensures.value c.deref-in-loop-here.ensures.value (omega (arith, c.len-in-loop-here.ensures)) (omega (arith, c.len.ensures))
           (sym c.is_over.ensures ∙ c.loop-here-test.true) c.in_ok-effect.ensures.shorter c.in_ok-effect.ensures.gives c.loop-here.invariant.so_far);
-      polys = rw c.in_ok-apply.ensures.polys (sound_polys c.args.ring.now.prime (length c.args.ring.now.letters.items) c.args.d c.loop-here.scope.polys.items c.in_ok-effect.effect c.loop-here.invariant.polys sound);
-      polys_low = rw c.in_ok-apply.ensures.polys (low_polys c.args.ring.now.prime (length c.args.ring.now.letters.items) c.args.d c.loop-here.scope.polys.items c.in_ok-effect.effect c.loop-here.invariant.polys_low sound);
-      ideals = rw c.in_ok-apply.ensures.ideals (sound_ideals c.args.ring.now.prime (length c.args.ring.now.letters.items) c.args.d c.loop-here.scope.ideals.items c.in_ok-effect.effect c.loop-here.invariant.ideals sound);
-      ideals_few = rw c.in_ok-apply.ensures.ideals (few_ideals c.args.ring.now.prime (length c.args.ring.now.letters.items) c.args.d c.loop-here.scope.ideals.items c.in_ok-effect.effect c.loop-here.invariant.ideals_few sound);
-      belong = rw c.in_ok-apply.ensures.commands (sound_commands c.args.ring.now.prime (length c.args.ring.now.letters.items) c.args.d c.loop-here.scope.commands.items c.in_ok-effect.effect c.loop-here.invariant.belong sound);
+      polys = rw c.in_ok-apply.ensures.polys (sound_polys c.args.ring.now.field (length c.args.ring.now.letters) c.args.d c.loop-here.scope.polys.items c.in_ok-effect.effect c.loop-here.invariant.polys sound);
+      polys_low = rw c.in_ok-apply.ensures.polys (low_polys c.args.ring.now.field (length c.args.ring.now.letters) c.args.d c.loop-here.scope.polys.items c.in_ok-effect.effect c.loop-here.invariant.polys_low sound);
+      ideals = rw c.in_ok-apply.ensures.ideals (sound_ideals c.args.ring.now.field (length c.args.ring.now.letters) c.args.d c.loop-here.scope.ideals.items c.in_ok-effect.effect c.loop-here.invariant.ideals sound);
+      ideals_few = rw c.in_ok-apply.ensures.ideals (few_ideals c.args.ring.now.field (length c.args.ring.now.letters) c.args.d c.loop-here.scope.ideals.items c.in_ok-effect.effect c.loop-here.invariant.ideals_few sound);
+      belong = rw c.in_ok-apply.ensures.commands (sound_commands c.args.ring.now.field (length c.args.ring.now.letters) c.args.d c.loop-here.scope.commands.items c.in_ok-effect.effect c.loop-here.invariant.belong sound);
       few = rw c.in_ok-apply.ensures.commands (omega (arith, asked_count c.loop-here.scope.commands.items c.in_ok-effect.effect, c.len.ensures, c.in_ok-effect.ensures.few));
     }
 
