@@ -31,9 +31,10 @@ use Rattle.local_std.specs.Lent.{Lent, IsUntouched, HasFailed, HasGiven}
 use Rattle.local_std.specs.Answer.{IsAnswer, AllFit, SomeIsSmall, IsVerdict}
 use Rattle.local_std.specs.Texts.{usage_line, too_long_line, not_built_line, refusal_line}
 use Rattle.local_std.specs.Scripts.{IsScriptOf, IsTooLong, IsRefused, IsNotBuilt}
-use Rattle.local_std.specs.Due.{limit_of, RequestDue, Offers, Admits, Served, Due, IsBrokenOff, IsCut, Ends}
+use Rattle.local_std.specs.Due.{limit_of, RequestDue, Offers, Admits, Served, Due, IsUncertified, IsCut, Ends}
 use Rattle.local_std.proofs.Built.{built_no}
 
+-- the greatest number of bytes of a script that is to be solved
 abbrev script_limit : ℕ
 script_limit = limit_of solve
 
@@ -199,8 +200,8 @@ module _ {S K C : Type 0} (source : Lent S) (out : Lent K) (cert : Lent C) (inpu
   complete_of ReadFault e no_read no_write = absurd (no_read (e.read_fault refl).2.0)
   complete_of WriteFault e no_read no_write = absurd (go (e.write_fault refl))
     where
-      go : (HasFailed cert × IsBrokenOff (Served solve source) out cert) ⊎ IsCut (Served solve source) out cert → ⊥
-      go (inl (failed, off)) = no_write (inr failed)
+      go : IsUncertified (Served solve source) out cert ⊎ IsCut (Served solve source) out cert → ⊥
+      go (inl none) = no_write (inr none.failed)
       go (inr cut) = no_write (inl cut.failed)
 
 -- the one thing to ask for is to solve

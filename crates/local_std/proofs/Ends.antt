@@ -74,15 +74,27 @@ module _ {S K C : Type 0} (request : Request) (source : Lent S) (out : Lent K) (
 
 -- ---- what holds where D is due holds where more is due
 module _ {K C : Type 0} (D E : Status → List ℕ → List ℕ → Type 0) (more : (s : Status) (t p : List ℕ) → D s t p → E s t p) (out : Lent K) (cert : Lent C) where
+  -- what was written of a text that is due for the one is written of one that is due for the other
   pub written_more : (status : Status) → IsWritten D out cert status → IsWritten E out cert status
   written_more status (t, p, d, o, c) = (t, p, more status t p d, o, c)
 
+  -- so it is of what was broken off
   pub broken_more : IsBrokenOff D out cert → IsBrokenOff E out cert
   broken_more (o, inl none) = (o, inl none)
   broken_more (o, inr (p, n, (s, t, d), gained)) = (o, inr (p, n, (s, t, more s t p d), gained))
 
+  -- and of what a failing sink left
   pub unwritten_more : IsUnwritten D out cert → IsUnwritten E out cert
-  unwritten_more (inl (failed, off)) = inl (failed, broken_more off)
+  unwritten_more (inl none) = inl (record {
+    failed = none.failed;
+    status = none.status;
+    text = none.text;
+    proof = none.proof;
+    is_due = more none.status none.text none.proof none.is_due;
+    count = none.count;
+    begun = none.begun;
+    unwritten = none.unwritten;
+  })
   unwritten_more (inr cut) = inr (record {
     failed = cut.failed;
     status = cut.status;

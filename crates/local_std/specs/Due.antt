@@ -86,9 +86,20 @@ pub record IsCut {K C : Type 0} (D : Status → List ℕ → List ℕ → Type 0
   pub begun : HasGained out (take count text)
   pub certified : HasGained cert proof
 
+-- `cert` failed after the beginning of its text, and nothing was written to `out`
+pub record IsUncertified {K C : Type 0} (D : Status → List ℕ → List ℕ → Type 0) (out : Lent K) (cert : Lent C) : Type 0 where
+  pub failed : HasFailed cert
+  pub status : Status
+  pub text : List ℕ
+  pub proof : List ℕ
+  pub is_due : D status text proof
+  pub count : ℕ
+  pub begun : HasGained cert (take count proof)
+  pub unwritten : IsUntouched out
+
 -- a sink failed: `cert`, after which `out` gets nothing, or else `out`
 abbrev pub IsUnwritten : {K C : Type 0} → (Status → List ℕ → List ℕ → Type 0) → Lent K → Lent C → Type 0
-IsUnwritten D out cert = (HasFailed cert × IsBrokenOff D out cert) ⊎ IsCut D out cert
+IsUnwritten D out cert = IsUncertified D out cert ⊎ IsCut D out cert
 
 -- how a request ends
 pub record Ends {S K C : Type 0} (request : Request) (source : Lent S) (out : Lent K) (cert : Lent C) (status : Status) : Type 0 where

@@ -1,5 +1,5 @@
 // The problems that were solved for a script, each once.
-ghost use Rattle.std.specs.Prelude.{◌≡◌, All, IfSome};
+ghost use Rattle.std.specs.Prelude.{◌≡◌, All, IfSome, IfNone};
 ghost use Rattle.text_out.specs.Answers.{IsInRing};
 ghost use Rattle.local_std.specs.Answer.{IsAnswerOf};
 ghost use Rattle.local_std.specs.Solved.{IsSolved};
@@ -15,10 +15,11 @@ pub struct Solved<'a> {
     pub answer: Answer,
 }
 
-/// The answer of the problem, where it was solved.
+/// The answer of the problem, where it was solved: there is none exactly where no problem that was solved is the same.
 pub fn answer_among<'b>(solved: &'b [Solved<'_>], problem: &Problem) -> Option<&'b Answer>
     requires { All IsSolved solved.now }
     ensures value { IfSome result (λ a. IsAnswerOf problem.now a.now) }
+    ensures none { IfNone result (All (λ one. one.problem.now ≡ problem.now → ⊥) solved.now) }
     ensures ring { IfSome result (λ a. IsInRing problem.now.p problem.now.n a.now) }
 {
     for one in solved {

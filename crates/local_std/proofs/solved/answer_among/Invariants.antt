@@ -1,0 +1,5 @@
+use Rattle.std.proofs.Common.{◌≡◌, All, take}
+use Rattle.local_std.proofs.solved.answer_among.Given as goal
+
+abbrev pub invariant-loop-one : goal.invariant-loop-one
+invariant-loop-one l = All (λ one. one.problem.now ≡ l.problem → ⊥) (take l.one-index l.solved)
