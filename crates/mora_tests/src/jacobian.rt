@@ -2,7 +2,7 @@
 
 ghost use Rattle.std.specs.Prelude.{◌≡◌, [], ◌∷◌, IfOk};
 ghost use Rattle.entry_code.specs.Entry.{entry_of};
-ghost use Rattle.mora_law.specs.Examples.{reading, entry, curve_problem};
+ghost use Rattle.mora_law.specs.Examples.{reading, entry, curve_problem, curve_entries};
 
 use crate::build::{is_same, term};
 use entry_code::{Entries, Entry, Item, Reading, Term};
@@ -68,45 +68,35 @@ fn binomial(
     Ok(made)
 }
 
-#[test]
-fn leads_fall(rt: HostRuntime) -> Result<(), Fail> {
-    let alloc = rt.alloc();
-    let problem = problem(alloc)?;
-    let table = RankTable::new(alloc, 2, 6)?;
+/// The entries of a run of the criterion: the generators made monic, x^5 - y^5 and y^6.
+fn entries(alloc: Global) -> Result<Entries, AllocError>
+    ensures { IfOk result (λ e. e ≡ curve_entries) }
+{
     // x*y^2 and x^2*y have the ranks 8 and 7.
     let mut entries = Entries::new(alloc);
-    entries.push(binomial(
-        alloc,
-        Item::Generator(0),
-        0,
-        8,
-        Term {
-            rank: 10,
-            coef: 16004,
-        },
-    )?)?;
-    entries.push(binomial(
-        alloc,
-        Item::Generator(1),
-        1,
-        7,
-        Term {
-            rank: 14,
-            coef: 16004,
-        },
-    )?)?;
-    entries.push(binomial(
-        alloc,
-        Item::Pair(0, 1),
-        2,
-        15,
-        Term {
-            rank: 20,
-            coef: 32002,
-        },
-    )?)?;
+    entries.push(binomial(alloc, Item::Generator(0), 0, 8, Term { rank: 10, coef: 16004 })?)?;
+    entries.push(binomial(alloc, Item::Generator(1), 1, 7, Term { rank: 14, coef: 16004 })?)?;
+    let last = Term {
+        rank: 20,
+        coef: 32002,
+    };
+    entries.push(binomial(alloc, Item::Pair(0, 1), 2, 15, last)?)?;
     entries.push(monomial(alloc, Item::Pair(1, 2), 3, 27)?)?;
-    let basis = reduced(alloc, &problem, &table, &entries)?;
+    Ok(entries)
+}
+
+/// The reduced basis.
+fn basis(alloc: Global) -> Result<Polys, Fail>
+{
+    let problem = problem(alloc)?;
+    let table = RankTable::new(alloc, 2, 6)?;
+    let entries = entries(alloc)?;
+    Ok(reduced(alloc, &problem, &table, &entries)?)
+}
+
+#[test]
+fn leads_fall(rt: HostRuntime) -> Result<(), Fail> {
+    let basis = basis(rt.alloc())?;
     assert_eq!(rt; basis.len(), 4);
     assert!(rt; is_same(basis.get(0), &[([2, 1], 1), ([0, 4], 16004)]));
     assert!(rt; is_same(basis.get(1), &[([1, 2], 1), ([4, 0], 16004)]));

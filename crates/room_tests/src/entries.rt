@@ -1,53 +1,74 @@
 //! Lists of an entry: with room for one member, then with two of them, and empty again.
 
+ghost use Rattle.std.specs.Prelude.{◌≡◌, length, IfOk};
+
 use entry_code::{Entries, Entry, Item, Reading, Reads, Term, Terms};
+use std::alloc::{AllocError, Global};
 use std::test::Fail;
 
+/// Two readings. The first push takes the free place, and the second one makes more of them.
+fn two_readings(alloc: Global) -> Result<Reads, AllocError>
+    ensures { IfOk result (λ r. length r.list ≡ 2) }
+{
+    let mut reads = Reads::room(alloc, 1)?;
+    reads.push(Reading {
+        known: 0,
+        corner: 15,
+    })?;
+    reads.push(Reading { known: 2, corner: 5 })?;
+    Ok(reads)
+}
+
+/// Two terms, likewise.
+fn two_terms(alloc: Global) -> Result<Terms, AllocError>
+    ensures { IfOk result (λ t. length t.list ≡ 2) }
+{
+    let mut terms = Terms::room(alloc, 1)?;
+    terms.push(Term { rank: 15, coef: 1 })?;
+    terms.push(Term { rank: 5, coef: 3 })?;
+    Ok(terms)
+}
+
+/// An entry without readings and terms, and one of a pair with one term.
+fn two_entries(alloc: Global) -> Result<Entries, AllocError>
+    ensures { IfOk result (λ e. length e ≡ 2) }
+{
+    let mut entries = Entries::new(alloc);
+    entries.push(Entry::room(alloc, 15)?)?;
+    let mut made = Entry::room(alloc, 15)?;
+    made.item = Item::Pair(0, 1);
+    made.terms.push(Term { rank: 3, coef: 1 })?;
+    entries.push(made)?;
+    Ok(entries)
+}
+
 #[test]
-fn lists_of_an_entry(rt: HostRuntime) -> Result<(), Fail> {
-    let mut reads = Reads::room(rt.alloc(), 1)?;
-    let mut terms = Terms::room(rt.alloc(), 1)?;
-    // The first push takes the free place, and the second one makes more of them.
-    for (known, corner) in [(0, 15), (2, 5)] {
-        reads.push(Reading { known, corner })?;
-        terms.push(Term {
-            rank: corner,
-            coef: known + 1,
-        })?;
-    }
-    if reads.len() != 2 || terms.len() != 2 {
-        return Err("another number of members")?;
-    }
+fn readings(rt: HostRuntime) -> Result<(), Fail> {
+    let mut reads = two_readings(rt.alloc())?;
     let read = [reads.get(0).corner, reads.get(1).known];
-    let stored = [terms.get(0).rank, terms.get(1).coef];
-    assert!(rt; [read, stored] == [[15, 2], [15, 3]]);
     reads.pop();
-    terms.pop();
-    let popped = [reads.len(), terms.len()];
+    let one = reads.len();
     reads.clear();
-    terms.clear();
-    assert!(rt; [popped, [reads.len(), terms.len()]] == [[1, 1], [0, 0]]);
+    assert!(rt; (read, one, reads.len()) == ([15, 2], 1, 0));
     Ok(())
 }
 
 #[test]
-fn lists_of_entries(rt: HostRuntime) -> Result<(), Fail> {
-    let mut entries = Entries::new(rt.alloc());
-    entries.push(Entry::room(rt.alloc(), 15)?)?;
-    let mut made = Entry::room(rt.alloc(), 15)?;
-    made.item = Item::Pair(0, 1);
-    made.terms.push(Term { rank: 3, coef: 1 })?;
-    entries.push(made)?;
-    if entries.len() != 2 {
-        return Err("another number of entries")?;
-    }
-    assert!(rt; entries.get(0).item == Item::Generator(0));
-    assert!(rt; entries.get(1).item == Item::Pair(0, 1));
-    let lengths = [
-        entries.get(0).reads.len(),
-        entries.get(0).terms.len(),
-        entries.get(1).terms.len(),
-    ];
-    assert!(rt; lengths == [0, 0, 1]);
+fn terms(rt: HostRuntime) -> Result<(), Fail> {
+    let mut terms = two_terms(rt.alloc())?;
+    let stored = [terms.get(0).rank, terms.get(1).coef];
+    terms.pop();
+    let one = terms.len();
+    terms.clear();
+    assert!(rt; (stored, one, terms.len()) == ([15, 3], 1, 0));
+    Ok(())
+}
+
+#[test]
+fn entries(rt: HostRuntime) -> Result<(), Fail> {
+    let entries = two_entries(rt.alloc())?;
+    let (first, second) = (entries.get(0), entries.get(1));
+    assert!(rt; [first.item, second.item] == [Item::Generator(0), Item::Pair(0, 1)]);
+    assert!(rt; [first.reads.len(), first.terms.len(), second.terms.len()] == [0, 0, 1]);
     Ok(())
 }

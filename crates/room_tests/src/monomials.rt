@@ -1,6 +1,6 @@
 //! Each call on monomials that were worked out by hand.
 
-ghost use Rattle.std.specs.Prelude.{◌≡◌, IfOk};
+ghost use Rattle.std.specs.Prelude.{◌≡◌, length, IfOk};
 
 use crate::build::FALLING;
 use local_order::Mono;
@@ -47,17 +47,46 @@ fn limits(rt: HostRuntime) {
     assert!(rt; std::mem::size_of::<Mono>() == 20);
 }
 
+/// Whether x^2*y, x*z^3, x and y^5 divide each other and are coprime as they should.
+fn are_divisors(a: &Mono, b: &Mono, x: &Mono, y: &Mono) -> bool
+    requires first { length a.now ≡ 3 }
+    requires second { length b.now ≡ 3 }
+    requires third { length x.now ≡ 3 }
+    requires fourth { length y.now ≡ 3 }
+{
+    x.divides(a)
+        && x.divides(b)
+        && !a.divides(x)
+        && !a.coprime(b)
+        && !x.coprime(b)
+        && y.coprime(b)
+        && a.quotient(b).is_none()
+        && exponents(a.quotient(x)) == [1, 1, 0]
+}
+
 #[test]
 fn divisors(rt: HostRuntime) -> Result<(), Fail> {
     let a = monomial(&[2, 1, 0])?;
     let b = monomial(&[1, 0, 3])?;
     let x = monomial(&[1, 0, 0])?;
     let y = monomial(&[0, 5, 0])?;
-    let divide = [x.divides(&a), x.divides(&b), a.divides(&x)];
-    let coprime = [a.coprime(&b), x.coprime(&b), y.coprime(&b)];
-    assert!(rt; [divide, coprime] == [[true, true, false], [false, false, true]]);
-    assert!(rt; a.quotient(&b).is_none() && exponents(a.quotient(&x)) == [1, 1, 0]);
+    assert!(rt; are_divisors(&a, &b, &x, &y));
     Ok(())
+}
+
+/// Whether x^2*y, x and x^999*z^1000 have the products and the least common multiple that they should.
+fn are_products(a: &Mono, x: &Mono, high: &Mono) -> bool
+    requires first { length a.now ≡ 3 }
+    requires second { length x.now ≡ 3 }
+    requires third { length high.now ≡ 3 }
+{
+    exponents(a.times(x)) == [3, 1, 0]
+        && exponents(Some(a.lcm(high))) == [999, 1, 1000]
+        && exponents(high.times(x)) == [1000, 0, 1000]
+        && high.times(a).is_none()
+        && a.n() == 3
+        && a.degree() == 3
+        && a.exp(0) == 2
 }
 
 #[test]
@@ -65,13 +94,6 @@ fn products(rt: HostRuntime) -> Result<(), Fail> {
     let a = monomial(&[2, 1, 0])?;
     let x = monomial(&[1, 0, 0])?;
     let high = monomial(&[999, 0, 1000])?;
-    let found = [
-        exponents(a.times(&x)),
-        exponents(Some(a.lcm(&high))),
-        exponents(high.times(&x)),
-    ];
-    assert!(rt; found == [[3, 1, 0], [999, 1, 1000], [1000, 0, 1000]]);
-    assert!(rt; [a.n(), a.degree(), u32::from(a.exp(0))] == [3, 3, 2]);
-    assert!(rt; high.times(&a).is_none());
+    assert!(rt; are_products(&a, &x, &high));
     Ok(())
 }

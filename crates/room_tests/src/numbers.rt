@@ -1,6 +1,6 @@
 //! Each call on residues that were worked out by hand.
 
-ghost use Rattle.std.specs.Prelude.{IsTrue};
+ghost use Rattle.std.specs.Prelude.{◌≡◌, IsTrue};
 ghost use Rattle.prime_field.specs.Decimal.{AreDigits};
 
 use prime_field::Field;
@@ -27,27 +27,43 @@ fn table(rt: HostRuntime) {
     }
 }
 
-#[test]
-fn residues(rt: HostRuntime) -> Result<(), Fail> {
-    let seven = Field::of(7).ok_or("no field")?;
-    let sums = [seven.add(3, 4), seven.add(5, 6), seven.sub(2, 5)];
-    let others = [seven.mul(3, 5), seven.neg(0), seven.neg(3)];
-    let usual = Field::of(32003).ok_or("no field")?;
-    let (is_half_negative, half) = usual.signed(16001);
-    let (is_rest_negative, rest) = usual.signed(16004);
-    let signs = [usual.inv(2), half, rest];
-    assert!(rt; [sums, others, signs] == [[0, 4, 4], [1, 0, 4], [16002, 16001, 15999]]);
-    assert!(rt; !is_half_negative && is_rest_negative);
-    Ok(())
+/// Sums, differences, products and opposites modulo 7.
+fn are_modulo_seven(seven: &Field) -> bool
+    requires { seven.now ≡ 7 }
+{
+    seven.add(3, 4) == 0
+        && seven.add(5, 6) == 4
+        && seven.sub(2, 5) == 4
+        && seven.mul(3, 5) == 1
+        && seven.neg(0) == 0
+        && seven.neg(3) == 4
+}
+
+/// An inverse and two sign forms modulo 32003.
+fn are_modulo_the_usual(usual: &Field) -> bool
+    requires { usual.now ≡ 32003 }
+{
+    usual.inv(2) == 16002
+        && usual.signed(16001) == (false, 16001)
+        && usual.signed(16004) == (true, 15999)
+}
+
+/// Inverses, a sum and a product modulo the greatest prime.
+fn are_modulo_the_greatest(large: &Field) -> bool
+    requires { large.now ≡ 2147483647 }
+{
+    let last = GREATEST - 1;
+    large.inv(65536) == 32768
+        && large.inv(last) == last
+        && large.add(last, last) == last - 1
+        && large.mul(last, last) == 1
 }
 
 #[test]
-fn modulo_the_greatest(rt: HostRuntime) -> Result<(), Fail> {
-    let large = Field::of(GREATEST).ok_or("no field")?;
-    let last = GREATEST - 1;
-    let inverses = [large.inv(65536), large.inv(last)];
-    let others = [large.add(last, last), large.mul(last, last)];
-    assert!(rt; [inverses, others] == [[32768, last], [last - 1, 1]]);
+fn residues(rt: HostRuntime) -> Result<(), Fail> {
+    assert!(rt; are_modulo_seven(&Field::of(7).ok_or("no field")?));
+    assert!(rt; are_modulo_the_usual(&Field::of(32003).ok_or("no field")?));
+    assert!(rt; are_modulo_the_greatest(&Field::of(GREATEST).ok_or("no field")?));
     Ok(())
 }
 
@@ -58,8 +74,7 @@ fn numerals(rt: HostRuntime) -> Result<(), Fail> {
     let nines = [b'9'; 1000];
     let long = b"100000000000000000000";
     assert!(rt; are_digits(&nines) && are_digits(long));
-    let short = [seven.from_decimal(long), seven.from_decimal(b"")];
-    let others = [seven.from_decimal(&nines), usual.from_decimal(&nines)];
-    assert!(rt; [short, others] == [[2, 0], [3, 24457]]);
+    assert!(rt; seven.from_decimal(long) == 2 && seven.from_decimal(b"") == 0);
+    assert!(rt; seven.from_decimal(&nines) == 3 && usual.from_decimal(&nines) == 24457);
     Ok(())
 }
