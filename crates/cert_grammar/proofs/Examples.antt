@@ -1,5 +1,5 @@
 -- Worked certificates, and the lines at which damaged ones go wrong.
-use Rattle.std.proofs.Common.{◌≡◌, ℕ, List, [], ◌∷◌, Result, Ok, Err, refl, codes}
+use Rattle.std.proofs.Common.{◌≡◌, ℕ, List, Result, Ok, Err, refl, codes}
 use Rattle.std.specs.Fmt.{digits}
 use Rattle.cert_grammar.specs.Blocks.{Block}
 use Rattle.cert_grammar.specs.Lines.{Line}

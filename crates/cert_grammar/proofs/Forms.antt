@@ -3,6 +3,7 @@
 -- reading is refused, the lines before the refused one begin a part, and with the refused one, whatever is behind,
 -- reading is refused there. Each way of putting forms together keeps the laws, so they hold of certificates.
 use Rattle.std.proofs.Common.{◌≡◌, ℕ, zero, suc, Bool, true, false, List, [], ◌∷◌, ◌++◌, length, Option, Some, None, Ok, Err, refl, sym, ◌∙◌, ap, subst, append_assoc, ⊎_elim, arith}
+use Rattle.script_grammar.proofs.Steps.{same_is, same_refl}
 use Rattle.std.specs.Prelude.{if◌then◌else◌}
 use Rattle.std.proofs.lemmas.List.{append-nil}
 use Rattle.std.specs.List.{AllByRecursion}
@@ -10,7 +11,7 @@ use Rattle.cert_grammar.specs.Lines.{Line, AreLines, IsLine, same_line}
 use Rattle.cert_grammar.specs.Cert.{in_turn}
 use Rattle.cert_grammar.specs.Reading.{Read, ◌>>=◌, taken, line_at, behind, followed, both, mapped, times_at, one_block_more}
 use Rattle.script_grammar.specs.Words.{is_same}
-use Rattle.cert_grammar.proofs.Tools.{bind_ok, bind_err, and_true, same_same, same_true}
+use Rattle.cert_grammar.proofs.Tools.{bind_ok, bind_err, and_true}
 
 -- a refused reading: the lines before the refused one begin a part, and reading is refused there whatever stands behind it
 pub record Refused {A : Type 0} (Is : A → Type 0) (lines : A → List Line) (read : Read A) (s after : List Line) : Type 0 where
@@ -22,6 +23,7 @@ pub record Refused {A : Type 0} (Is : A → Type 0) (lines : A → List Line) (r
   pub begun : lines value ≡ good ++ more
   pub dead : (l : Line) (rest other : List Line) → after ≡ l ∷ rest → read (good ++ l ∷ other) ≡ Err (l ∷ other)
 
+-- what holds of a part and its reading
 pub record IsForm {A : Type 0} (Is : A → Type 0) (lines : A → List Line) (read : Read A) : Type 0 where
   -- there is such a part
   pub some : A
@@ -32,11 +34,13 @@ pub record IsForm {A : Type 0} (Is : A → Type 0) (lines : A → List Line) (re
   pub first : (s after : List Line) → read s ≡ Err after → Refused Is lines read s after
 
 -- ---- one line
+-- what holds of a line and its reading
 pub record IsLineForm {A : Type 0} (Is : A → Type 0) (line : A → Line) (of : Line → Option A) : Type 0 where
   pub plain : (a : A) → Is a → IsLine (line a)
   pub only : (a : A) → Is a → of (line a) ≡ Some a
   pub found : (l : Line) (a : A) → of l ≡ Some a → Is a × (l ≡ line a)
 
+-- a line that is read is one of the form
 one_line_found : {A : Type 0} (Is : A → Type 0) (line : A → Line) (of : Line → Option A) → IsLineForm Is line of →
     (s : List Line) (x : A × List Line) → line_at of s ≡ Ok x → Is x.0 × (s ≡ line x.0 ∷ x.1)
 one_line_found {A} Is line of F [] x e = absurd (cc)
@@ -49,6 +53,7 @@ one_line_found {A} Is line of F (l ∷ ls) x e = go (of l) refl e
         subst (λ (z : A × List Line). Is z.0 × (l ∷ ls ≡ line z.0 ∷ z.1)) q (f.0, ap (λ (k : Line). k ∷ ls) f.1)
     go None is p = absurd (cc)
 
+-- where no line of the form stands next, reading is refused there
 one_line_first : {A : Type 0} (Is : A → Type 0) (line : A → Line) (of : Line → Option A) (value : A) → Is value →
     (s after : List Line) → line_at of s ≡ Err after → Refused Is (λ a. line a ∷ []) (line_at of) s after
 one_line_first {A} Is line of value is [] after e =
@@ -69,6 +74,7 @@ one_line_first {A} Is line of value is (l ∷ ls) after e = go (of l) refl e
           dead = λ k rest other r. let alike : k ≡ l = cc in ap (λ (z : Line). taken z other (of z)) alike ∙ ap (taken l other) was ∙ ap (λ (z : Line). Err (z ∷ other)) (sym alike);
         }
 
+-- a line is a part
 pub one_line : {A : Type 0} (Is : A → Type 0) (line : A → Line) (of : Line → Option A) (value : A) → Is value → IsLineForm Is line of →
     IsForm Is (λ a. line a ∷ []) (line_at of)
 one_line Is line of value is F = record {
@@ -81,6 +87,7 @@ one_line Is line of value is F = record {
 }
 
 -- ---- nothing more
+-- nothing is a part
 pub done_form : {A : Type 0} (a : A) → IsForm (λ x. x ≡ a) (λ x. []) (λ s. Ok (a, s))
 done_form {A} a = record {
   some = a;
@@ -92,6 +99,7 @@ done_form {A} a = record {
 }
 
 -- ---- one after another
+-- lines and lines are lines
 pub lines-append : (a b : List Line) → AreLines a → AreLines b → AreLines (a ++ b)
 lines-append [] b h k = k
 lines-append (l ∷ a) b h k = (h.0, lines-append a b h.1 k)
@@ -101,6 +109,7 @@ pub record IsSplit {A T : Type 0} (IsA : A → Type 0) (linesA : A → List Line
   pub apart : (t : T) → Is t → IsA (part t) × IsB (part t) t × (lines t ≡ linesA (part t) ++ linesB (part t) t)
   pub joined : (a : A) (t : T) → IsA a → IsB a t → Is t × (lines t ≡ linesA a ++ linesB a t)
 
+-- a part, and one that hangs on it, are a part
 pub then_form : {A T : Type 0} (IsA : A → Type 0) (linesA : A → List Line) (readA : Read A) (IsB : A → T → Type 0) (linesB : A → T → List Line) (readB : A → Read T)
     (Is : T → Type 0) (lines : T → List Line) (part : T → A) → IsForm IsA linesA readA → ((a : A) → IsA a → IsForm (IsB a) (linesB a) (readB a)) →
     IsSplit IsA linesA IsB linesB Is lines part → IsForm Is lines (λ s. readA s >>= λ x. readB x.0 x.1)
@@ -168,6 +177,7 @@ then_form {A} {T} IsA linesA readA IsB linesB readB Is lines part F G S = record
         (bind_err (readA s) (λ x. readB x.0 x.1) after e)
 
 -- ---- the same form, said otherwise
+-- a form told by other words for the same is a form
 pub same_form : {A : Type 0} (Is Was : A → Type 0) (lines were : A → List Line) (read : Read A) → ((a : A) → Is a → Was a × (lines a ≡ were a)) → ((a : A) → Was a → Is a × (lines a ≡ were a)) →
     IsForm Was were read → IsForm Is lines read
 same_form {A} Is Was lines were read to from F = record {
@@ -182,6 +192,7 @@ same_form {A} Is Was lines were read to from F = record {
 }
 
 -- ---- seen as something else
+-- a part that is seen as something else is a part
 pub mapped_form : {A T : Type 0} (f : A → T) (g : T → A) (IsA : A → Type 0) (linesA : A → List Line) (readA : Read A) (Is : T → Type 0) (lines : T → List Line) →
     ((t : T) → Is t → IsA (g t) × (lines t ≡ linesA (g t)) × (t ≡ f (g t))) → ((a : A) → IsA a → Is (f a) × (lines (f a) ≡ linesA a)) →
     IsForm IsA linesA readA → IsForm Is lines (mapped f readA)
@@ -193,6 +204,7 @@ mapped_form {A} {T} f g IsA linesA readA Is lines to from F =
     })
 
 -- ---- two parts
+-- two parts, the second hanging on the first, are a part
 pub both_form : {A B : Type 0} (IsA : A → Type 0) (linesA : A → List Line) (readA : Read A) (IsB : A → B → Type 0) (linesB : A → B → List Line) (readB : A → Read B) →
     IsForm IsA linesA readA → ((a : A) → IsA a → IsForm (IsB a) (linesB a) (readB a)) →
     IsForm {A = A × B} (λ t. IsA t.0 × IsB t.0 t.1) (λ t. linesA t.0 ++ linesB t.0 t.1) (both readA readB)
@@ -207,18 +219,21 @@ both_form {A} {B} IsA linesA readA IsB linesB readB F G =
     })
 
 -- ---- a line that is given
+-- a line is the same as itself
 pub same_line_same : (l : Line) → same_line l l ≡ true
 same_line_same [] = refl
-same_line_same (w ∷ ws) = rw (same_same w) (same_line_same ws)
+same_line_same (w ∷ ws) = rw (same_refl w) (same_line_same ws)
 
+-- lines that are the same are equal
 pub same_line_true : (k l : Line) → same_line k l ≡ true → k ≡ l
 same_line_true [] [] e = refl
 same_line_true [] (w ∷ ws) e = absurd (cc)
 same_line_true (v ∷ vs) [] e = absurd (cc)
 same_line_true (v ∷ vs) (w ∷ ws) e =
     let q : (is_same v w ≡ true) × (same_line vs ws ≡ true) = and_true (is_same v w) (same_line vs ws) e in
-    ap (λ (z : List ℕ). z ∷ vs) (same_true v w q.0) ∙ ap (λ (z : Line). w ∷ z) (same_line_true vs ws q.1)
+    ap (λ (z : List ℕ). z ∷ vs) (same_is v w q.0) ∙ ap (λ (z : Line). w ∷ z) (same_line_true vs ws q.1)
 
+-- a part behind a given line is a part
 pub behind_form : {A : Type 0} (k : Line) (Is : A → Type 0) (lines : A → List Line) (read : Read A) → IsLine k → IsForm Is lines read → IsForm Is (λ a. k ∷ lines a) (behind k read)
 behind_form {A} k Is lines read k_is F = record {
   some = F.some;
@@ -283,14 +298,17 @@ abbrev pub IsCons : {A : Type 0} → (List A → Type 0) → A → List A → Ty
 IsCons Rest a [] = ⊥
 IsCons Rest a (x ∷ xs) = (x ≡ a) × Rest xs
 
+-- the members behind the first
 abbrev pub tail : {A : Type 0} → List A → List A
 tail [] = []
 tail (x ∷ xs) = xs
 
+-- the first member, and else a
 abbrev pub head_or : {A : Type 0} → A → List A → A
 head_or a [] = a
 head_or a (x ∷ xs) = x
 
+-- a part and then more of them are a part
 pub cons_form : {A : Type 0} (IsA : A → Type 0) (linesA : A → List Line) (readA : Read A) (Rest : List A → Type 0) (linesR : List A → List Line) (readR : Read (List A))
     (Is : List A → Type 0) (lines : List A → List Line) → IsForm IsA linesA readA → IsForm Rest linesR readR → (Is [] → ⊥) →
     ((x : A) (xs : List A) → Is (x ∷ xs) → IsA x × Rest xs) → ((x : A) (xs : List A) → IsA x → Rest xs → Is (x ∷ xs)) →
@@ -314,9 +332,11 @@ cons_form {A} IsA linesA readA Rest linesR readR Is lines F R none apart joined 
     join a (x ∷ xs) h k = (joined x xs (subst IsA (sym k.0) h) k.1, by x xs ∙ ap (λ (z : A). linesA z ++ linesR xs) k.0)
 
 -- ---- so many
+-- n of them
 abbrev pub AreSoMany : {A : Type 0} → (A → Type 0) → ℕ → List A → Type 0
 AreSoMany Is n xs = (length xs ≡ n) × AllByRecursion Is xs
 
+-- so many parts are a part
 pub times_form : {A : Type 0} (Is : A → Type 0) (lines : ℕ → A → List Line) (read : ℕ → Read A) → ((i : ℕ) → IsForm Is (lines i) (read i)) →
     (n i : ℕ) → IsForm (AreSoMany Is n) (in_turn lines i) (times_at read n i)
 times_form {A} Is lines read F zero i = same_form (AreSoMany Is 0) (λ x. x ≡ []) (in_turn lines i) (λ x. []) (λ s. Ok ([], s)) to (λ a e. (subst (AreSoMany Is 0) (sym e) (refl, tt), ap (in_turn lines i) e)) (done_form [])

@@ -1,6 +1,7 @@
 pub mod Tools
 pub mod Forms
 pub mod Phrases
+pub mod PrintedBytes
 pub mod RingWords
 pub mod Grammar
 pub mod Parts

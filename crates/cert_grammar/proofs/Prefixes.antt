@@ -14,6 +14,7 @@ use Rattle.cert_grammar.proofs.Texts.{lines_again, no_lines}
 use Rattle.cert_grammar.proofs.Refusals.{text-append, not_ended, lines-back}
 
 -- ---- counting lines
+-- the ends of lines of two texts are those of both
 count-append : (a b : List ℕ) → line_count (a ++ b) ≡ line_count a + line_count b
 count-append [] b = omega arith
 count-append (x ∷ a) b = go (x == 10) (count-append a b)
@@ -22,6 +23,7 @@ count-append (x ∷ a) b = go (x == 10) (count-append a b)
     go true e = omega arith
     go false e = e
 
+-- a word has no end of a line
 count-word : (w : Word) → is_plain w ≡ true → line_count w ≡ 0
 count-word [] h = refl
 count-word (b ∷ w) h =
@@ -33,6 +35,7 @@ count-word (b ∷ w) h =
     not_true true e = absurd (cc)
     not_true false e = refl
 
+-- words have no end of a line
 count-words : (w : Word) (ws : List Word) → IsLine (w ∷ ws) → line_count (join_with_byte 32 (w ∷ ws)) ≡ 0
 count-words w [] h = count-word w h.0
 count-words w (v ∷ ws) h =
@@ -41,13 +44,16 @@ count-words w (v ∷ ws) h =
     let r : line_count (w ++ (32 ∷ join_with_byte 32 (v ∷ ws))) ≡ line_count w + line_count (32 ∷ join_with_byte 32 (v ∷ ws)) = count-append w (32 ∷ join_with_byte 32 (v ∷ ws)) in
     r ∙ ap (λ n. n + line_count (join_with_byte 32 (v ∷ ws))) q ∙ (let s : 0 + line_count (join_with_byte 32 (v ∷ ws)) ≡ 0 = omega (arith, p) in s)
 
+-- a line without its end has none
 count-join : (l : Line) → IsLine l → line_count (join_with_byte 32 l) ≡ 0
 count-join [] h = elim h [ ]
 count-join (w ∷ ws) h = count-words w ws h
 
+-- a line has one end
 count-line : (l : Line) → IsLine l → line_count (line_text l) ≡ 1
 count-line l h = count-append (join_with_byte 32 l) (10 ∷ []) ∙ ap (λ n. n + 1) (count-join l h)
 
+-- a text has as many ends as lines
 pub count-text : (ls : List Line) → AreLines ls → line_count (text ls) ≡ length ls
 count-text [] h = refl
 count-text (l ∷ ls) h =
@@ -57,6 +63,7 @@ count-text (l ∷ ls) h =
     r ∙ ap (λ n. n + line_count (text ls)) p ∙ (let s : 1 + line_count (text ls) ≡ length (l ∷ ls) = omega (arith, q) in s)
 
 -- ---- bytes behind a certificate
+-- a certificate with bytes behind it is none
 tail_none : (c : List Block) (v : List ℕ) → IsCert c → v ≢ [] → IsCertText (cert_text c ++ v) → ⊥
 tail_none c v is some t =
     let both_read : (c, lines_of v) ≡ (t.blocks, []) =
@@ -65,6 +72,7 @@ tail_none c v is some t =
     (ap (λ (z : List ℕ). cert_at (lines_of z)) (t.spelled ∙ sym (append-nil (cert_text t.blocks))) ∙ ap cert_at (lines_again (cert_lines t.blocks) [] (cert_form.plain t.blocks t.is)) ∙ cert_form.only t.blocks [] t.is) in
     some (no_lines v (ap (λ (z : List Block × List Line). z.1) both_read))
 
+-- a certificate with bytes behind it goes wrong behind its last line
 pub with_tail : (t v : List ℕ) → IsCertText t → v ≢ [] → IsFormLine (t ++ v) (line_count t + 1)
 with_tail t v h some =
     let plain : AreLines (cert_lines h.blocks) = cert_form.plain h.blocks h.is in
@@ -89,6 +97,7 @@ record Shorter (a c : List ℕ) (b : List ℕ) : Type 0 where
   is : c ≡ a ++ by
   some : by ≢ []
 
+-- of two beginnings of a text one goes on as the other
 compared_bytes : (a b c d : List ℕ) → a ++ b ≡ c ++ d → Longer a c b d ⊎ Shorter a c b
 compared_bytes a b [] d e = inl (record { by = a; is = refl; left = e })
 compared_bytes [] b (x ∷ c) d e = inr (record { by = x ∷ c; is = refl; some = λ q. cc })
@@ -112,6 +121,7 @@ record Cuts (u : List ℕ) (ls : List Line) : Type 0 where
   part : line_text l ≡ rest ++ tail
   some : tail ≢ []
 
+-- a text that is cut ends in one of its lines
 cut_of : (ls : List Line) (u v : List ℕ) → u ++ v ≡ text ls → v ≢ [] → Cuts u ls
 cut_of [] u v e some = absurd (some (no_bytes u v e))
   where
@@ -156,6 +166,7 @@ no_end l rest tail h e some =
     nothing (x ∷ []) b e h k = k (cc)
     nothing (x ∷ y ∷ a) b e h k = cc
 
+-- a certificate without its last bytes goes wrong behind its whole lines
 pub without_end : (u v : List ℕ) → IsCertText (u ++ v) → v ≢ [] → IsFormLine u (line_count u + 1)
 without_end u v h some =
     let c : Cuts u (cert_lines h.blocks) = cut_of (cert_lines h.blocks) u v h.spelled some in

@@ -17,14 +17,17 @@ pub lines-front : (a b : List Line) → AreLines (a ++ b) → AreLines a
 lines-front [] b h = tt
 lines-front (l ∷ a) b h = (h.0, lines-front a b h.1)
 
+-- the last of some lines are lines
 pub lines-back : (a b : List Line) → AreLines (a ++ b) → AreLines b
 lines-back [] b h = h
 lines-back (l ∷ a) b h = lines-back a b h.1
 
+-- the text of lines and lines
 pub text-append : (a b : List Line) → text (a ++ b) ≡ text a ++ text b
 text-append [] b = refl
 text-append (l ∷ a) b = ap (λ (z : List ℕ). line_text l ++ z) (text-append a b) ∙ sym (append_assoc (line_text l) (text a) (text b))
 
+-- some line is not none
 cons_nil : (l : Line) (ls : List Line) → l ∷ ls ≡ [] → ⊥
 cons_nil l ls e = cc
 
@@ -49,6 +52,7 @@ not_ended c k b is =
     cons_nil k b.more (ap (λ (z : List Block × List Line). z.1) q)
 
 -- ---- what is read
+-- what is read is a certificate, and the bytes are its text
 pub read_found : (bytes : List ℕ) (blocks : List Block) → read_text bytes ≡ Ok blocks → IsCert blocks × (bytes ≡ cert_text blocks)
 read_found bytes blocks e =
     let b : (x : List Block × List Line) × (cert_at (lines_of bytes) ≡ Ok x) × (all_read x ≡ Ok blocks) = bind_ok (cert_at (lines_of bytes)) all_read blocks e in
@@ -63,12 +67,14 @@ read_found bytes blocks e =
         subst (λ (z : List Block). IsCert z × (bytes ≡ cert_text z)) q
         (f.0, t.split ∙ ap (λ (z : List ℕ). cert_text c ++ z) (no_lines t.rest t.behind) ∙ append-nil (cert_text c))
 
+-- a certificate is read from its text
 pub read_only : (blocks : List Block) → IsCert blocks → read_text (cert_text blocks) ≡ Ok blocks
 read_only blocks is =
     ap (λ (z : List ℕ). read_text z) (sym (append-nil (cert_text blocks)))
     ∙ ap cert_of (lines_again (cert_lines blocks) [] (cert_form.plain blocks is))
     ∙ ap (λ z. z >>= all_read) (cert_form.only blocks [] is)
 
+-- where reading is refused the bytes are no certificate
 pub read_none : (bytes : List ℕ) (after : List Line) → read_text bytes ≡ Err after → IsCertText bytes → ⊥
 read_none bytes after e t = err_ok (read_text (cert_text t.blocks)) after t.blocks (ap read_text (sym t.spelled) ∙ e) (read_only t.blocks t.is)
 
@@ -80,6 +86,7 @@ record Stops (bytes : List ℕ) (after : List Line) : Type 0 where
   begun : BeginsCert good
   no_more : (l : Line) (more : List Line) → after ≡ l ∷ more → BeginsCert (good ++ l ∷ []) → ⊥
 
+-- where reading is refused, the lines before begin a certificate and no certificate goes on with the next
 stops : (bytes : List ℕ) (after : List Line) → read_text bytes ≡ Err after → Stops bytes after
 stops bytes after e = ⊎_elim refused rest (bind_err (cert_at (lines_of bytes)) all_read after e)
   where
@@ -105,6 +112,7 @@ stops bytes after e = ⊎_elim refused rest (bind_err (cert_at (lines_of bytes))
           no_more = λ k more u b. not_ended c k b f.0;
         }
 
+-- the line at which reading is refused is the one at which the bytes go wrong
 pub read_line_number : (bytes : List ℕ) (after : List Line) → read_text bytes ≡ Err after → IsFormLine bytes (line_number bytes after)
 read_line_number bytes after e =
     let s : Stops bytes after = stops bytes after e in
@@ -124,6 +132,7 @@ read_line_number bytes after e =
     }
 
 -- ---- one certificate, one line
+-- a text is that of one certificate
 pub one_cert : (a b : List Block) → IsCert a → IsCert b → cert_text a ≡ cert_text b → a ≡ b
 one_cert a b ha hb e =
     ok_same (read_text (cert_text a)) a b (read_only a ha) (ap read_text e ∙ read_only b hb)
@@ -136,6 +145,7 @@ record GoesOn (a b x : List Line) : Type 0 where
   is : b ≡ a ++ front ∷ more
   left : x ≡ front ∷ back
 
+-- of two beginnings of some lines one goes on as the other
 compared : (a b x y : List Line) → a ++ x ≡ b ++ y → (a ≡ b) ⊎ (GoesOn a b x ⊎ GoesOn b a y)
 compared [] [] x y e = inl refl
 compared [] (l ∷ b) x y e = inr (inl (record { front = l; more = b; back = b ++ y; is = refl; left = e }))
@@ -162,6 +172,7 @@ no_longer bytes L f b h g =
         let r : BeginsWithLine f.rest (w ∷ ws) g.back = one_line_there f.rest w ws g.back left in
         f.no_more (w ∷ ws) r.rest (r.split ∙ ap (λ (z : List ℕ). z ++ r.rest) (sym (append-nil (line_text (w ∷ ws))))) begun
 
+-- a text goes wrong at one line
 pub one_form_line : (bytes : List ℕ) (L M : ℕ) → IsFormLine bytes L → IsFormLine bytes M → L ≡ M
 one_form_line bytes L M f g =
     ⊎_elim

@@ -4,6 +4,7 @@ use Rattle.std.specs.Prelude.{◌&&◌, not, ◌==◌, if◌then◌else◌}
 use Rattle.cert_grammar.specs.Lines.{Word, Line, line_text, text, is_plain, IsLine, AreLines, in_front, word_in_front, with_byte, lines_of}
 use Rattle.cert_grammar.proofs.Tools.{and_true}
 
+-- what is not so is not so
 not_true : (b : Bool) → not b ≡ true → b ≡ false
 not_true true e = absurd (cc)
 not_true false e = refl
@@ -14,12 +15,14 @@ front_byte b w [] = refl
 front_byte b w (v ∷ ws) = refl
 
 -- ---- from lines to their text and back
+-- a byte that is no blank and no end goes on with the word
 plain_byte : (b : ℕ) (w : Word) (ws : List Word) (ls : List Line) → (b == 10) ≡ false → (b == 32) ≡ false → (rest : List ℕ) → lines_of rest ≡ (w ∷ ws) ∷ ls → lines_of (b ∷ rest) ≡ ((b ∷ w) ∷ ws) ∷ ls
 plain_byte b w ws ls n10 n32 rest e =
     ap (λ c. if c then ([] ∷ []) ∷ lines_of rest else with_byte b (lines_of rest)) n10
     ∙ ap (with_byte b) e
     ∙ ap (λ c. (if c then word_in_front (w ∷ ws) else in_front b (w ∷ ws)) ∷ ls) n32
 
+-- a line is taken off its text, word by word
 line_again : (w : Word) (ws : List Word) (rest : List ℕ) → IsLine (w ∷ ws) → lines_of (line_text (w ∷ ws) ++ rest) ≡ (w ∷ ws) ∷ lines_of rest
 line_again [] [] rest h = refl
 line_again [] (v ∷ ws) rest h = ap (with_byte 32) (line_again v ws rest h.1)
@@ -29,10 +32,12 @@ line_again (b ∷ w) ws rest h =
     ap (λ (z : List ℕ). lines_of (z ++ rest)) (front_byte b w ws)
     ∙ plain_byte b w ws (lines_of rest) (not_true (b == 10) q.0) (not_true (b == 32) p.0) (line_text (w ∷ ws) ++ rest) (line_again w ws rest (q.1, h.1))
 
+-- a line is taken off its text
 pub one_line_again : (l : Line) (rest : List ℕ) → IsLine l → lines_of (line_text l ++ rest) ≡ l ∷ lines_of rest
 one_line_again [] rest h = elim h [ ]
 one_line_again (w ∷ ws) rest h = line_again w ws rest h
 
+-- lines are taken off their text
 pub lines_again : (ls : List Line) (rest : List ℕ) → AreLines ls → lines_of (text ls ++ rest) ≡ ls ++ lines_of rest
 lines_again [] rest h = refl
 lines_again (l ∷ ls) rest h =
@@ -45,14 +50,17 @@ pub record BeginsWith (bytes : List ℕ) (good after : List Line) : Type 0 where
   pub split : bytes ≡ text good ++ rest
   pub behind : lines_of rest ≡ after
 
+-- the bytes begin with a line
 pub record BeginsWithLine (bytes : List ℕ) (l : Line) (after : List Line) : Type 0 where
   pub rest : List ℕ
   pub split : bytes ≡ line_text l ++ rest
   pub behind : lines_of rest ≡ after
 
+-- numbers that pass the test are equal
 eqb_is : (m n : ℕ) → (m == n) ≡ true → m ≡ n
 eqb_is m n e = grind arith
 
+-- a first line with a word stands in the bytes
 pub one_line_there : (bytes : List ℕ) (w : Word) (ws : List Word) (after : List Line) → lines_of bytes ≡ (w ∷ ws) ∷ after → BeginsWithLine bytes (w ∷ ws) after
 one_line_there [] w ws after e = absurd (cc)
 one_line_there (b ∷ bytes) w ws after e = go (one_line_there bytes) (b == 10) refl e
@@ -87,6 +95,7 @@ one_line_there (b ∷ bytes) w ws after e = go (one_line_there bytes) (b == 10) 
                 let r : ls ≡ after = cc in
                 record { rest = there.rest; split = ap (λ (z : List ℕ). b ∷ z) there.split ∙ ap (λ (z : List ℕ). z ++ there.rest) (sym (front_byte b v vs)) ∙ ap (λ (z : Line). line_text z ++ there.rest) q; behind = there.behind ∙ r }
 
+-- lines stand in the bytes
 pub lines_there : (bytes : List ℕ) (good after : List Line) → AreLines good → lines_of bytes ≡ good ++ after → BeginsWith bytes good after
 lines_there bytes [] after h e = record { rest = bytes; split = refl; behind = e }
 lines_there bytes ([] ∷ good) after h e = elim h.0 [ ]

@@ -10,6 +10,7 @@ use Rattle.cert_grammar.proofs.Forms.{Refused, IsForm, done_form, same_form, beh
 use Rattle.cert_grammar.proofs.Parts.{numbered_plain, block_form}
 
 -- ---- a line that ends it, or one part more
+-- this line, or else what is read
 abbrev pub choice : {A : Type 0} → A → Read A → Line → List Line → Bool → Result (A × List Line) (List Line)
 choice e readC l ls b = elim b [ true ↦ Ok (e, ls) | false ↦ readC (l ∷ ls) ]
 
@@ -20,6 +21,7 @@ pub record BeginsOther (k : Line) (lines : List Line) : Type 0 where
   pub is : lines ≡ front ∷ more
   pub other : same_line front k ≡ false
 
+-- one line, or a part that does not begin with it, are a part
 pub or_form : {A : Type 0} (k : Line) (e : A) (IsC : A → Type 0) (readC : Read A) (Is : A → Type 0) (lines : A → List Line) (read : Read A) → IsLine k → IsForm IsC lines readC →
     Is e → lines e ≡ k ∷ [] → ((a : A) → Is a → (a ≡ e) ⊎ IsC a) → ((a : A) → IsC a → Is a) → ((a : A) → IsC a → BeginsOther k (lines a)) →
     read [] ≡ Err [] → ((l : Line) (ls : List Line) → read (l ∷ ls) ≡ choice e readC l ls (same_line l k)) → IsForm Is lines read
@@ -74,6 +76,7 @@ or_form {A} k e IsC readC Is lines read k_is C e_is e_line to from begins none s
             there (g ∷ good) j rest other s u = let q : g ≡ l = cc in step g (good ++ j ∷ other) ∙ ap (choice e readC g (good ++ j ∷ other)) (ap (λ (z : Line). same_line z k) q ∙ was)
 
 -- ---- blocks
+-- at most k blocks
 abbrev pub AreBlocks : ℕ → List Block → Type 0
 AreBlocks k xs = (length xs ≤ k) × AllByRecursion IsBlock xs
 
@@ -82,22 +85,27 @@ abbrev pub AreMore : ℕ → List Block → Type 0
 AreMore k [] = ⊥
 AreMore k (x ∷ xs) = IsBlock x × AreBlocks k xs
 
+-- the last line behind b blocks
 abbrev pub done_line : ℕ → Line
 done_line b = numbered (codes "done") b
 
+-- a block and then more of them are a part
 more_form : (k b : ℕ) → IsForm (AreBlocks k) (blocks_lines (suc b)) (blocks_at k (suc b)) → IsForm (AreMore k) (blocks_lines b) (one_block_more (block_at (suc b)) (blocks_at k (suc b)))
 more_form k b F =
     cons_form IsBlock (block_lines (suc b)) (block_at (suc b)) (AreBlocks k) (blocks_lines (suc b)) (blocks_at k (suc b)) (AreMore k) (blocks_lines b) (block_form (suc b)) F
     (λ h. h) (λ x xs h. h) (λ x xs h j. (h, j)) (λ x xs. refl)
 
+-- no block is read of no lines
 blocks_end : (k b : ℕ) → blocks_at (suc k) b [] ≡ Err []
 unfolding blocks_at
 blocks_end k b = refl
 
+-- the next line decides whether a block follows
 blocks_step : (k b : ℕ) (l : Line) (ls : List Line) → blocks_at (suc k) b (l ∷ ls) ≡ choice [] (one_block_more (block_at (suc b)) (blocks_at k (suc b))) l ls (same_line l (done_line b))
 unfolding blocks_at
 blocks_step k b l ls = refl
 
+-- the blocks up to the last line are a part
 pub blocks_form : (k b : ℕ) → IsForm (AreBlocks k) (blocks_lines b) (blocks_at k b)
 unfolding blocks_at
 blocks_form zero b =
@@ -125,6 +133,7 @@ blocks_form (suc k) b =
     begins (x ∷ xs) h = record { front = _; more = _; is = refl; other = refl }
 
 -- ---- a certificate
+-- a certificate is a part
 pub cert_form : IsForm IsCert cert_lines cert_at
 cert_form =
     behind_form head_line IsCert (blocks_lines 0) (one_block_more (block_at 1) (blocks_at 63 1)) (refl, (refl, tt))

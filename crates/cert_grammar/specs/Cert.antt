@@ -3,6 +3,7 @@ use Rattle.std.specs.Prelude.{◌≡◌, ℕ, ◌≤◌, suc, List, [], ◌∷�
 use Rattle.std.specs.List.{AllByRecursion}
 use Rattle.local_order.specs.Limits.{max_monomials, max_generators}
 use Rattle.cert_grammar.specs.Limits.{max_number, max_blocks}
+use Rattle.sparse_poly.specs.Poly.{Polynomial}
 use Rattle.cert_grammar.specs.Lines.{Word, Line, text}
 use Rattle.entry_code.specs.declared.item.Item.{Item}
 use Rattle.entry_code.specs.declared.item.Item.TheVariants.{Generator, Pair}
@@ -12,7 +13,7 @@ use Rattle.cert_grammar.specs.Entries.{Fitting}
 use Rattle.cert_grammar.specs.declared.block.Verdict.{Verdict}
 use Rattle.cert_grammar.specs.declared.block.Verdict.TheVariants.{Fits, TooSmall}
 use Rattle.cert_grammar.specs.Blocks.{Block}
-use Rattle.cert_grammar.specs.Words.{Ring, is_poly, is_nonzero, is_mono, is_top, is_prime, are_letters, is_degree}
+use Rattle.cert_grammar.specs.Words.{Ring, IsPolyOf, IsNonzeroOf, IsMonoOf, IsTopOf, poly_word, mono_word, is_prime, are_letters, is_degree}
 
 -- ---- lines
 abbrev pub head_line : Line
@@ -32,19 +33,19 @@ item_line i (Pair a b) = codes "entry" ∷ decimal i ∷ codes "pair" ∷ decima
 abbrev pub read_line : Reading → Line
 read_line r = codes "read" ∷ decimal r.known ∷ decimal r.corner ∷ []
 
-abbrev pub poly_line : Word → Line
-poly_line f = codes "poly" ∷ f ∷ []
+abbrev pub poly_line : Ring → Polynomial → Line
+poly_line r f = codes "poly" ∷ poly_word r f ∷ []
 
 -- a monomial, or none
-abbrev pub corner_word : Option Word → Word
-corner_word None = codes "none"
-corner_word (Some m) = m
+abbrev pub corner_word : Ring → Option (List ℕ) → Word
+corner_word r None = codes "none"
+corner_word r (Some m) = mono_word r m
 
-abbrev pub corner_line : Option Word → Line
-corner_line o = codes "corner" ∷ corner_word o ∷ []
+abbrev pub corner_line : Ring → Option (List ℕ) → Line
+corner_line r o = codes "corner" ∷ corner_word r o ∷ []
 
-abbrev pub stair_line : List Word → Line
-stair_line stair = codes "stair" ∷ decimal (length stair) ∷ stair
+abbrev pub stair_line : Ring → List (List ℕ) → Line
+stair_line r stair = codes "stair" ∷ decimal (length stair) ∷ map (mono_word r) stair
 
 -- ---- several lines
 -- those of the members, one after the other, numbered from i on
@@ -57,22 +58,22 @@ abbrev pub counted : {A : Type 0} → Word → (ℕ → A → List Line) → Lis
 counted word f xs = numbered word (length xs) ∷ in_turn f 0 xs
 
 -- a line of one word
-abbrev pub alone : ℕ → Word → List Line
-alone i w = (w ∷ []) ∷ []
+abbrev pub alone : {A : Type 0} → (A → Word) → ℕ → A → List Line
+alone word i a = (word a ∷ []) ∷ []
 
-abbrev pub reads_lines : List Reading → Word → List Line
-reads_lines [] f = poly_line f ∷ []
-reads_lines (r ∷ rs) f = read_line r ∷ reads_lines rs f
+abbrev pub reads_lines : Ring → List Reading → Polynomial → List Line
+reads_lines r [] f = poly_line r f ∷ []
+reads_lines r (x ∷ xs) f = read_line x ∷ reads_lines r xs f
 
-abbrev pub entry_lines : ℕ → Entry → List Line
-entry_lines i x = item_line i x.item ∷ reads_lines x.reads x.poly
+abbrev pub entry_lines : Ring → ℕ → Entry → List Line
+entry_lines r i x = item_line i x.item ∷ reads_lines r x.reads x.poly
 
-abbrev pub fitting_lines : Fitting → List Line
-fitting_lines f = counted (codes "basis") alone f.basis ++ corner_line f.corner ∷ stair_line f.stair ∷ []
+abbrev pub fitting_lines : Ring → Fitting → List Line
+fitting_lines r f = counted (codes "basis") (alone (poly_word r)) f.basis ++ corner_line r f.corner ∷ stair_line r f.stair ∷ []
 
-abbrev pub verdict_lines : Verdict → List Line
-verdict_lines (Fits f) = (codes "fits" ∷ []) ∷ fitting_lines f
-verdict_lines (TooSmall m) = (codes "too" ∷ codes "small" ∷ m ∷ []) ∷ []
+abbrev pub verdict_lines : Ring → Verdict → List Line
+verdict_lines r (Fits f) = (codes "fits" ∷ []) ∷ fitting_lines r f
+verdict_lines r (TooSmall m) = (codes "too" ∷ codes "small" ∷ mono_word r m ∷ []) ∷ []
 
 abbrev pub block_lines : ℕ → Block → List Line
 block_lines b x =
@@ -80,9 +81,9 @@ block_lines b x =
     ∷ numbered (codes "p") x.ring.p
     ∷ vars_line x.ring.letters
     ∷ numbered (codes "D") x.ring.d
-    ∷ (counted (codes "gens") alone x.gens
-    ++ (counted (codes "entries") entry_lines x.entries
-    ++ (verdict_lines x.verdict
+    ∷ (counted (codes "gens") (alone (poly_word x.ring)) x.gens
+    ++ (counted (codes "entries") (entry_lines x.ring) x.entries
+    ++ (verdict_lines x.ring x.verdict
     ++ numbered (codes "end") b ∷ [])))
 
 -- blocks from the b-th on, and the last line
@@ -116,22 +117,22 @@ pub record IsEntry (r : Ring) (x : Entry) : Type 0 where
   pub item : IsItem x.item
   pub some : 1 ≤ length x.reads
   pub reads : AllByRecursion IsReading x.reads
-  pub poly : is_nonzero r x.poly ≡ true
+  pub poly : IsNonzeroOf r x.poly
 
-abbrev pub IsCorner : Ring → Option Word → Type 0
+abbrev pub IsCorner : Ring → Option (List ℕ) → Type 0
 IsCorner r None = Unit {0}
-IsCorner r (Some m) = is_mono r m ≡ true
+IsCorner r (Some m) = IsMonoOf r m
 
 pub record IsFitting (r : Ring) (f : Fitting) : Type 0 where
   pub few : nat_le (length f.basis) max_monomials ≡ true
-  pub basis : AllByRecursion (λ f. is_nonzero r f ≡ true) f.basis
+  pub basis : AllByRecursion (IsNonzeroOf r) f.basis
   pub corner : IsCorner r f.corner
   pub few_stairs : IsNumber (length f.stair)
-  pub stair : AllByRecursion (λ m. is_mono r m ≡ true) f.stair
+  pub stair : AllByRecursion (IsMonoOf r) f.stair
 
 abbrev pub IsVerdict : Ring → Verdict → Type 0
 IsVerdict r (Fits f) = IsFitting r f
-IsVerdict r (TooSmall m) = is_top r m ≡ true
+IsVerdict r (TooSmall m) = IsTopOf r m
 
 pub record IsRing (r : Ring) : Type 0 where
   pub p : is_prime r.p ≡ true
@@ -141,7 +142,7 @@ pub record IsRing (r : Ring) : Type 0 where
 pub record IsBlock (x : Block) : Type 0 where
   pub ring : IsRing x.ring
   pub few_gens : nat_le (length x.gens) max_generators ≡ true
-  pub gens : AllByRecursion (λ f. is_poly x.ring f ≡ true) x.gens
+  pub gens : AllByRecursion (IsPolyOf x.ring) x.gens
   pub few_entries : nat_le (length x.entries) max_monomials ≡ true
   pub entries : AllByRecursion (IsEntry x.ring) x.entries
   pub verdict : IsVerdict x.ring x.verdict

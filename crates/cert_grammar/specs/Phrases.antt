@@ -46,9 +46,5 @@ whole F ws = option_and_then ended (F ws)
 abbrev pub numeral_of : (ℕ → Bool) → Word → Option ℕ
 numeral_of test w = if test (value_of w) && is_same w (decimal (value_of w)) then Some (value_of w) else None
 
--- a word that passes the test
-abbrev pub word_of : (Word → Bool) → Word → Option Word
-word_of test w = if test w then Some w else None
-
 abbrev pub number_at : Phrase ℕ
 number_at = one_word (numeral_of is_number)

@@ -4,8 +4,9 @@ use Rattle.std.specs.Prelude.{ℕ, ◌+◌, ◌-◌, zero, suc, List, [], ◌∷
 use Rattle.std.specs.Option.{option_map}
 use Rattle.local_order.specs.Limits.{max_monomials, max_generators}
 use Rattle.script_grammar.specs.Words.{is_same}
+use Rattle.sparse_poly.specs.Poly.{Polynomial}
 use Rattle.cert_grammar.specs.Lines.{Word, Line, same_line, lines_of}
-use Rattle.cert_grammar.specs.Words.{Ring, is_poly, is_nonzero, is_mono, is_top, is_prime, are_letters, is_degree}
+use Rattle.cert_grammar.specs.Words.{Ring, poly_of_word, nonzero_of_word, mono_of_word, top_of_word, is_prime, are_letters, is_degree}
 use Rattle.entry_code.specs.declared.item.Item.{Item}
 use Rattle.entry_code.specs.declared.item.Item.TheVariants.{Generator, Pair}
 use Rattle.entry_code.specs.declared.reading.Reading.{Reading}
@@ -17,7 +18,7 @@ use Rattle.cert_grammar.specs.declared.block.Verdict.{Verdict}
 use Rattle.cert_grammar.specs.declared.block.Verdict.TheVariants.{Fits, TooSmall}
 use Rattle.cert_grammar.specs.Blocks.{Block}
 use Rattle.cert_grammar.specs.Cert.{head_line, numbered}
-use Rattle.cert_grammar.specs.Phrases.{one_word, behind_word, both_words, words_times, whole, numeral_of, word_of, number_at}
+use Rattle.cert_grammar.specs.Phrases.{one_word, behind_word, both_words, words_times, whole, numeral_of, number_at}
 
 -- ---- lines
 infixl 10 ◌>>=◌
@@ -84,8 +85,8 @@ vars_of [] = None
 vars_of (w ∷ ws) = if is_same w (codes "vars") then option_and_then if_letters (bytes_of ws) else None
 
 -- a line that is one word
-abbrev pub alone_of : (Word → Bool) → Line → Option Word
-alone_of test = whole (one_word (word_of test))
+abbrev pub alone_of : {A : Type 0} → (Word → Option A) → Line → Option A
+alone_of of = whole (one_word of)
 
 abbrev pub generator_of : ℕ → Line → Option Item
 generator_of i l = option_map (λ g. Generator g) (whole (behind_word (codes "entry") (behind_word (decimal i) (behind_word (codes "gen") number_at))) l)
@@ -104,27 +105,27 @@ item_of i l = first_of_two (generator_of i l) (pair_of i l)
 abbrev pub reading_of : Line → Option Reading
 reading_of l = option_map (λ x. record { known = x.0; corner = x.1 }) (whole (behind_word (codes "read") (both_words number_at (λ _. number_at))) l)
 
-abbrev pub poly_of : Ring → Line → Option Word
-poly_of r = whole (behind_word (codes "poly") (one_word (word_of (is_nonzero r))))
+abbrev pub poly_of : Ring → Line → Option Polynomial
+poly_of r = whole (behind_word (codes "poly") (one_word (nonzero_of_word r)))
 
 -- the verdict's line: nothing where the degree fits, else the monomial that is missing
-abbrev pub fits_of : Line → Option (Option Word)
+abbrev pub fits_of : Line → Option (Option (List ℕ))
 fits_of l = if same_line l (codes "fits" ∷ []) then Some None else None
 
-abbrev pub small_of : Ring → Line → Option (Option Word)
-small_of r l = option_map (λ m. Some m) (whole (behind_word (codes "too") (behind_word (codes "small") (one_word (word_of (is_top r))))) l)
+abbrev pub small_of : Ring → Line → Option (Option (List ℕ))
+small_of r l = option_map (λ m. Some m) (whole (behind_word (codes "too") (behind_word (codes "small") (one_word (top_of_word r)))) l)
 
-abbrev pub verdict_of : Ring → Line → Option (Option Word)
+abbrev pub verdict_of : Ring → Line → Option (Option (List ℕ))
 verdict_of r l = first_of_two (fits_of l) (small_of r l)
 
-abbrev pub corner_word_of : Ring → Word → Option (Option Word)
-corner_word_of r w = if is_same w (codes "none") then Some None else option_map (λ m. Some m) (word_of (is_mono r) w)
+abbrev pub corner_word_of : Ring → Word → Option (Option (List ℕ))
+corner_word_of r w = if is_same w (codes "none") then Some None else option_map (λ m. Some m) (mono_of_word r w)
 
-abbrev pub corner_of : Ring → Line → Option (Option Word)
+abbrev pub corner_of : Ring → Line → Option (Option (List ℕ))
 corner_of r = whole (behind_word (codes "corner") (one_word (corner_word_of r)))
 
-abbrev pub stair_of : Ring → Line → Option (List Word)
-stair_of r l = option_map (λ x. x.1) (whole (behind_word (codes "stair") (both_words number_at (words_times (one_word (word_of (is_mono r)))))) l)
+abbrev pub stair_of : Ring → Line → Option (List (List ℕ))
+stair_of r l = option_map (λ x. x.1) (whole (behind_word (codes "stair") (both_words number_at (words_times (one_word (mono_of_word r))))) l)
 
 -- a line behind an entry's first reading: one more reading, or its polynomial
 abbrev pub step_of : Ring → Line → Option Step
@@ -132,10 +133,10 @@ step_of r l = first_of_two (option_map Last (poly_of r l)) (option_map OneMore (
 
 -- ---- parts
 -- readings, up to a polynomial
-abbrev pub reads_from : {E : Type 0} → Reading → (List Reading × Word) × List Line → Result ((List Reading × Word) × List Line) E
+abbrev pub reads_from : {E : Type 0} → Reading → (List Reading × Polynomial) × List Line → Result ((List Reading × Polynomial) × List Line) E
 reads_from r x = Ok ((r ∷ x.0.0, x.0.1), x.1)
 
-unfoldable pub reads_at : Ring → Read (List Reading × Word)
+unfoldable pub reads_at : Ring → Read (List Reading × Polynomial)
 reads_at r [] = Err []
 reads_at r (l ∷ ls) = elim (step_of r l) [
   | None ↦ Err (l ∷ ls)
@@ -143,24 +144,24 @@ reads_at r (l ∷ ls) = elim (step_of r l) [
 ]
 
 -- an entry of these parts
-abbrev pub entry_from : Item × (Reading × (List Reading × Word)) → Entry
+abbrev pub entry_from : Item × (Reading × (List Reading × Polynomial)) → Entry
 entry_from x = record { item = x.0; reads = x.1.0 ∷ x.1.1.0; poly = x.1.1.1 }
 
 abbrev pub entry_at : Ring → ℕ → Read Entry
 entry_at r i = mapped entry_from (both (line_at (item_of i)) (λ _. both (line_at reading_of) (λ _. reads_at r)))
 
-abbrev pub poly_alone : (Word → Bool) → ℕ → Read Word
-poly_alone test i = line_at (alone_of test)
+abbrev pub poly_alone : (Word → Option Polynomial) → ℕ → Read Polynomial
+poly_alone of i = line_at (alone_of of)
 
-abbrev pub fitting_from : List Word × (Option Word × List Word) → Fitting
+abbrev pub fitting_from : List Polynomial × (Option (List ℕ) × List (List ℕ)) → Fitting
 fitting_from x = record { basis = x.0; corner = x.1.0; stair = x.1.1 }
 
 abbrev pub fitting_at : Ring → Read Fitting
-fitting_at r = mapped fitting_from (both (counted_at (codes "basis") (λ s. nat_le s max_monomials) (poly_alone (is_nonzero r)))
+fitting_at r = mapped fitting_from (both (counted_at (codes "basis") (λ s. nat_le s max_monomials) (poly_alone (nonzero_of_word r)))
     (λ _. both (line_at (corner_of r)) (λ _. line_at (stair_of r))))
 
 -- what stands behind the verdict's line
-abbrev pub verdict_behind : Ring → Option Word → Read Verdict
+abbrev pub verdict_behind : Ring → Option (List ℕ) → Read Verdict
 verdict_behind r None = mapped Fits (fitting_at r)
 verdict_behind r (Some m) = λ s. Ok (TooSmall m, s)
 
@@ -174,7 +175,7 @@ abbrev pub ring_at : Read Ring
 ring_at = mapped ring_from (both (line_at (numbered_of (codes "p") is_prime))
     (λ _. both (line_at vars_of) (λ letters. line_at (numbered_of (codes "D") (is_degree (length letters))))))
 
-abbrev pub block_from : Ring × (List Word × (List Entry × Verdict)) → Block
+abbrev pub block_from : Ring × (List Polynomial × (List Entry × Verdict)) → Block
 block_from x = record { ring = x.0; gens = x.1.0; entries = x.1.1.0; verdict = x.1.1.1 }
 
 -- a part and then this line
@@ -183,7 +184,7 @@ followed F k s = F s >>= λ x. behind k (λ t. Ok (x.0, t)) x.1
 
 abbrev pub block_at : ℕ → Read Block
 block_at b = behind (numbered (codes "block") b) (mapped block_from (both ring_at (λ r.
-    both (counted_at (codes "gens") (λ m. nat_le m max_generators) (poly_alone (is_poly r))) (λ _.
+    both (counted_at (codes "gens") (λ m. nat_le m max_generators) (poly_alone (poly_of_word r))) (λ _.
     both (counted_at (codes "entries") (λ e. nat_le e max_monomials) (entry_at r)) (λ _.
     followed (verdict_at r) (numbered (codes "end") b))))))
 

@@ -1,17 +1,18 @@
--- Which words are polynomials and monomials of a ring.
-use Rattle.std.specs.Prelude.{ℕ, List, [], ◌∷◌, Bool, true, ◌&&◌, ◌||◌, not, nat_le, ◌==◌, codes, length}
+-- The ring of a block, and which words are polynomials and monomials of it.
+use Rattle.std.specs.Prelude.{◌≡◌, ◌≢◌, ◌≤◌, ℕ, List, [], ◌∷◌, Bool, true, ◌&&◌, not, nat_le, ◌==◌, if◌then◌else◌, Option, Some, None, codes, length}
 use Rattle.std.specs.List.{list_all, list_any}
 use Rattle.std.specs.Char.{is_ascii_alphabetic}
 use Rattle.prime_field.specs.Prime.{table}
+use Rattle.local_order.specs.Limits.{max_variables, max_degree, max_monomials}
 use Rattle.local_order.specs.Count.{count_by_products}
 use Rattle.local_order.specs.Mono.{degree}
-use Rattle.local_order.specs.Limits.{max_variables, max_degree, max_monomials}
-use Rattle.cert_grammar.specs.Limits.{max_prime}
-use Rattle.script_grammar.specs.Words.{is_same}
-use Rattle.sparse_poly.specs.Poly.{Poly}
+use Rattle.sparse_poly.specs.Poly.{Poly, Polynomial, in_variables}
 use Rattle.sparse_poly.specs.Canonical.{canonical}
+use Rattle.sparse_poly.specs.Ideal.{IsGenerator}
+use Rattle.script_grammar.specs.Words.{is_same}
 use Rattle.text_out.specs.Texts.{mono_text, poly_text}
 use Rattle.text_out.specs.Reads.{exponents_in, terms_in}
+use Rattle.cert_grammar.specs.Limits.{max_prime}
 use Rattle.cert_grammar.specs.Lines.{Word}
 
 -- the characteristic, the letters of the variables and the degree beyond which nothing stands
@@ -21,39 +22,58 @@ pub record Ring : Type 0 where
   pub d : ℕ
 
 -- ---- polynomials and monomials
--- the bytes that may stand in a text of either: letters, digits and marks
-abbrev pub is_mark : ℕ → Bool
-is_mark b = (nat_le 42 b && nat_le b 57) || ((nat_le 65 b && nat_le b 94) || (nat_le 97 b && nat_le b 122))
+-- f is a polynomial of the ring
+abbrev pub IsPolyOf : Ring → Polynomial → Type 0
+IsPolyOf r f = IsGenerator r.p (length r.letters) r.d f
+
+-- f is one other than 0
+pub record IsNonzeroOf (r : Ring) (f : Polynomial) : Type 0 where
+  pub poly : IsPolyOf r f
+  pub some : f.terms ≢ []
+
+-- m is a monomial of the ring
+pub record IsMonoOf (r : Ring) (m : List ℕ) : Type 0 where
+  pub in_ring : length m ≡ length r.letters
+  pub low : degree m ≤ r.d
+
+-- m is one of just the ring's degree
+pub record IsTopOf (r : Ring) (m : List ℕ) : Type 0 where
+  pub in_ring : length m ≡ length r.letters
+  pub top : degree m ≡ r.d
+
+-- ---- their words
+abbrev pub poly_word : Ring → Polynomial → Word
+poly_word r f = poly_text r.p r.letters f.terms
+
+abbrev pub mono_word : Ring → List ℕ → Word
+mono_word r m = mono_text r.letters m
 
 -- the polynomial that is read of a word, whatever else it may be
-abbrev pub poly_in : Ring → Word → Poly
-poly_in r w = canonical r.p (terms_in r.p r.letters w)
+abbrev pub poly_in : Ring → Word → Polynomial
+poly_in r w = in_variables (length r.letters) (canonical r.p (terms_in r.p r.letters w))
 
 -- no term has a degree above d
 abbrev pub is_low : ℕ → Poly → Bool
 is_low d f = list_all (λ t. nat_le (degree t.mono) d) f
 
--- A word is a polynomial of the ring where what is read of it is printed as this word.
-abbrev pub is_poly : Ring → Word → Bool
-is_poly r w = list_all is_mark w && (is_low r.d (poly_in r w) && is_same (poly_text r.p r.letters (poly_in r w)) w)
+-- the polynomial of a word, where what is read of it is printed as this word
+abbrev pub poly_of_word : Ring → Word → Option Polynomial
+poly_of_word r w = if is_low r.d (poly_in r w).terms && is_same (poly_word r (poly_in r w)) w then Some (poly_in r w) else None
 
-abbrev pub is_nonzero : Ring → Word → Bool
-is_nonzero r w = not (is_same w (codes "0")) && is_poly r w
+-- the same where it isn't 0
+abbrev pub nonzero_of_word : Ring → Word → Option Polynomial
+nonzero_of_word r w = if is_same w (codes "0") then None else poly_of_word r w
 
--- what is read of a word as a monomial is printed as this word
-abbrev pub is_printed_mono : List ℕ → Word → Bool
-is_printed_mono letters w = list_all is_mark w && is_same (mono_text letters (exponents_in letters w)) w
+-- the monomial of a word, where what is read of it is printed as this word, and its degree passes the test
+abbrev pub mono_passing : (ℕ → Bool) → Ring → Word → Option (List ℕ)
+mono_passing test r w =
+    if test (degree (exponents_in r.letters w)) && is_same (mono_word r (exponents_in r.letters w)) w then Some (exponents_in r.letters w) else None
 
--- A word is a monomial where it is printed so, and its degree passes the test.
-abbrev pub is_mono_of : (ℕ → Bool) → Ring → Word → Bool
-is_mono_of test r w = test (degree (exponents_in r.letters w)) && is_printed_mono r.letters w
+abbrev pub mono_of_word : Ring → Word → Option (List ℕ)
+mono_of_word r = mono_passing (λ k. nat_le k r.d) r
 
-abbrev pub is_mono : Ring → Word → Bool
-is_mono r w = is_mono_of (λ k. nat_le k r.d) r w
-
--- the degree is just that of the ring
-abbrev pub is_top : Ring → Word → Bool
-is_top r w = is_mono_of (λ k. k == r.d) r w
+abbrev pub top_of_word : Ring → Word → Option (List ℕ)
+top_of_word r = mono_passing (λ k. k == r.d) r
 
 -- ---- rings
 abbrev pub is_prime : ℕ → Bool

@@ -2,16 +2,18 @@
 
 ghost use Rattle.std.specs.Prelude.{◌≡◌};
 
-use crate::entry::{Entry, Text};
+use crate::entry::Entry;
 use crate::ring::Ring;
+use local_order::Mono;
+use sparse_poly::Poly;
 use std::marker::Model;
 
 /// What is claimed of a problem whose degree fits.
 #[derive(Drop)]
 pub struct Fitting {
-    basis: Vec<Text>,
-    corner: Option<Text>,
-    stair: Vec<Text>,
+    basis: Vec<Poly>,
+    corner: Option<Mono>,
+    stair: Vec<Mono>,
 }
 
 impl Model for Fitting {
@@ -24,7 +26,7 @@ impl Model for Fitting {
 
 impl Fitting {
     /// What is claimed by these parts. It takes no memory.
-    pub fn new(basis: Vec<Text>, corner: Option<Text>, stair: Vec<Text>) -> Fitting
+    pub fn new(basis: Vec<Poly>, corner: Option<Mono>, stair: Vec<Mono>) -> Fitting
         ensures { result ≡ record { basis = basis.items; corner = corner; stair = stair.items } }
     {
         Fitting {
@@ -39,14 +41,14 @@ impl Fitting {
 #[derive(Drop)]
 pub enum Verdict {
     Fits(Fitting),
-    TooSmall(Text),
+    TooSmall(Mono),
 }
 
 /// A problem and what is certified of it.
 #[derive(Drop)]
 pub struct Block {
     ring: Ring,
-    gens: Vec<Text>,
+    gens: Vec<Poly>,
     entries: Vec<Entry>,
     verdict: Verdict,
 }
@@ -61,7 +63,7 @@ impl Model for Block {
 
 impl Block {
     /// The block of these parts. It takes no memory.
-    pub fn new(ring: Ring, gens: Vec<Text>, entries: Vec<Entry>, verdict: Verdict) -> Block
+    pub fn new(ring: Ring, gens: Vec<Poly>, entries: Vec<Entry>, verdict: Verdict) -> Block
         ensures { result ≡ record { ring = ring; gens = gens.items; entries = entries.items; verdict = verdict } }
     {
         Block {

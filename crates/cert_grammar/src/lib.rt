@@ -10,5 +10,5 @@ pub mod laws;
 mod ring;
 
 pub use block::{Block, Cert, Fitting, Verdict};
-pub use entry::{Entry, Step, Text};
+pub use entry::{Entry, Step};
 pub use ring::Ring;

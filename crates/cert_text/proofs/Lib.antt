@@ -6,3 +6,4 @@ pub mod StairReads
 pub mod Loops
 pub mod Writing
 pub mod Finish
+pub mod RingReads

@@ -1,5 +1,6 @@
 -- A line is its first word and those behind it, a text its first line and those behind it, and a numeral is told by what is printed.
 use Rattle.std.proofs.Common.{length-drop, ◌≡◌, ℕ, suc, ◌+◌, ◌-◌, ◌*◌, ◌<◌, ◌≤◌, Bool, true, false, List, [], ◌∷◌, length, take, drop, get_or, Option, Some, None, refl, sym, ◌∙◌, ap, subst, arith}
+use Rattle.std.proofs.lemmas.Bool.{le-leb, lt-leb}
 use Rattle.std.specs.Prelude.{◌==◌, ◌&&◌, not, nat_le, eqb, nat_lt, if◌then◌else◌, decimal}
 use Rattle.std.proofs.Math.Seq.{drop-cons}
 use Rattle.std.specs.Option.{option_map, is_some}
@@ -13,6 +14,7 @@ use Rattle.cert_text.specs.WordsLeft.{words_left}
 use Rattle.cert_grammar.specs.Phrases.{numeral_of, keyword_at}
 
 -- ---- equal bytes
+-- comparing bytes one by one is comparing
 pub pointwise_same : (v w : List ℕ) → pointwise eqb v w ≡ is_same v w
 pointwise_same [] [] = refl
 pointwise_same [] (b ∷ w) = refl
@@ -20,10 +22,12 @@ pointwise_same (a ∷ v) [] = refl
 pointwise_same (a ∷ v) (b ∷ w) = ap (λ z. eqb a b && z) (pointwise_same v w)
 
 -- ---- cuts
+-- how many bytes stand before c, by the first byte
 pub len_before-cons : (c b : ℕ) (bytes : List ℕ) → len_before c (b ∷ bytes) ≡ (if b == c then 0 else suc (len_before c bytes))
 unfolding len_before
 len_before-cons c b bytes = refl
 
+-- none stand in no bytes
 pub len_before-nil : (c : ℕ) → len_before c [] ≡ 0
 unfolding len_before
 len_before-nil c = refl
@@ -34,9 +38,11 @@ cut_more n b bytes =
     ap (λ k. if k then Some (drop (suc n + 1) (b ∷ bytes)) else None) (let p : nat_lt (suc n) (length (b ∷ bytes)) ≡ nat_lt n (length bytes) = grind arith in p)
     ∙ ap (λ j. if nat_lt n (length bytes) then Some (drop j (b ∷ bytes)) else None) (let p : suc n + 1 ≡ suc (n + 1) = omega arith in p)
 
+-- behind the first byte
 cut_here : (b : ℕ) (bytes : List ℕ) → behind_cut 0 (b ∷ bytes) ≡ Some bytes
 cut_here b bytes = ap (λ k. if k then Some (drop (0 + 1) (b ∷ bytes)) else None) (let p : nat_lt 0 (length (b ∷ bytes)) ≡ true = grind arith in p)
 
+-- a line is its first word and those behind it
 pub words-cut : (bytes : List ℕ) → words_of bytes ≡ take (len_before 32 bytes) bytes ∷ words_left (behind_cut (len_before 32 bytes) bytes)
 words-cut [] = ap (λ n. take n [] ∷ words_left (behind_cut n [])) (sym (len_before-nil 32))
 words-cut (b ∷ bytes) = go (b == 32) refl (words-cut bytes)
@@ -78,10 +84,12 @@ abbrev pub unended : List ℕ → List Line
 unended [] = []
 unended (b ∷ bytes) = [] ∷ []
 
+-- the first line and those behind it
 abbrev pub lines_left : List ℕ → ℕ → Option (List ℕ) → List Line
 lines_left bytes n None = unended bytes
 lines_left bytes n (Some rest) = words_of (take n bytes) ∷ lines_of rest
 
+-- a text is its first line and those behind it
 pub lines-cut : (bytes : List ℕ) → lines_of bytes ≡ lines_left bytes (len_before 10 bytes) (behind_cut (len_before 10 bytes) bytes)
 lines-cut [] = ap (λ n. lines_left [] n (behind_cut n [])) (sym (len_before-nil 10))
 lines-cut (b ∷ bytes) = go (b == 10) refl (lines-cut bytes)
@@ -121,6 +129,7 @@ pub front_some : {X : Type 0} (f : X → List ℕ) (ls : List Line) (bytes front
 front_some f ls bytes front behind x e p q is =
     sym e ∙ lines-cut bytes ∙ ap (lines_left bytes (len_before 10 bytes)) (sym q ∙ ap (option_map f) is) ∙ ap (λ z. words_of z ∷ lines_of (f x)) (sym p)
 
+-- where no whole line is left, the bytes have no end of a line
 pub front_none : {X : Type 0} (f : X → List ℕ) (ls : List Line) (bytes : List ℕ) (behind : Option X) → lines_of bytes ≡ ls →
     option_map f behind ≡ behind_cut (len_before 10 bytes) bytes → behind ≡ None → IsUnended ls
 front_none f ls bytes behind e q is = subst IsUnended (sym (lines-cut bytes ∙ ap (lines_left bytes (len_before 10 bytes)) (sym q ∙ ap (option_map f) is)) ∙ e) (none bytes)
@@ -130,25 +139,22 @@ front_none f ls bytes behind e q is = subst IsUnended (sym (lines-cut bytes ∙ 
     none (b ∷ bytes) = without_end
 
 -- ---- numerals
+-- a numeral that goes on has no smaller value
 grows : (v : ℕ) (ds : List ℕ) → v ≤ value_from v ds
 grows v [] = omega arith
 grows v (c ∷ ds) = omega (arith, grows (10 * v + (c - 48)) ds)
 
-le_leb : (m n : ℕ) → m ≤ n → nat_le m n ≡ true
-le_leb m n h = grind arith
-
-gt_leb : (m n : ℕ) → n < m → nat_le m n ≡ false
-gt_leb m n h = grind arith
-
+-- a numeral whose first digits have a value above the limit is refused
 pub numeral_high : (limit v i : ℕ) (w : List ℕ) → value_from v (drop i w) ≡ value_of w → i < length w → limit < 10 * v + (get_or w i 0 - 48) → numeral_of (λ n. nat_le n limit) w ≡ None
 numeral_high limit v i w e h high =
     ap (λ b. if b && is_same w (decimal (value_of w)) then Some (value_of w) else None)
-    (gt_leb (value_of w) limit (omega (arith, high, grows (10 * v + (get_or w i 0 - 48)) (drop (suc i) w), sym e ∙ ap (value_from v) (drop-cons w i 0 h))))
+    (lt-leb (value_of w) limit (omega (arith, high, grows (10 * v + (get_or w i 0 - 48)) (drop (suc i) w), sym e ∙ ap (value_from v) (drop-cons w i 0 h))))
 
+-- a numeral is told by what is printed
 pub numeral_told : (limit v : ℕ) (w : List ℕ) (b : Bool) → v ≡ value_of w → v ≤ limit → pointwise eqb w (decimal v) ≡ b → numeral_of (λ n. nat_le n limit) w ≡ (if b then Some v else None)
 numeral_told limit v w b e h s =
     ap (λ n. if nat_le n limit && is_same w (decimal n) then Some n else None) (sym e)
-    ∙ ap (λ k. if k && is_same w (decimal v) then Some v else None) (le_leb v limit h)
+    ∙ ap (λ k. if k && is_same w (decimal v) then Some v else None) (le-leb v limit h)
     ∙ ap (λ k. if k then Some v else None) (sym (pointwise_same w (decimal v)) ∙ s)
 
 -- ---- counting
@@ -168,12 +174,14 @@ pub count_some : {X : Type 0} (f : X → List ℕ) (bytes : List ℕ) (behind : 
 count_some f bytes behind x q is =
     ap (λ (z : List Line). length z) (front_some f (lines_of bytes) bytes (take (len_before 10 bytes) bytes) behind x refl refl q is) ∙ (let p : suc (length (lines_of (f x))) ≡ 1 + length (lines_of (f x)) = omega arith in p)
 
+-- bytes without an end are one line
 pub count_none : {X : Type 0} (f : X → List ℕ) (bytes : List ℕ) (behind : Option X) → 0 < length bytes → option_map f behind ≡ behind_cut (len_before 10 bytes) bytes → behind ≡ None →
     length (lines_of bytes) ≡ 1
 count_none f [] behind h q is = absurd (omega arith)
 count_none f (b ∷ bytes) behind h q is =
     ap (λ (z : List Line). length z) (lines-cut (b ∷ bytes) ∙ ap (lines_left (b ∷ bytes) (len_before 10 (b ∷ bytes))) (sym q ∙ ap (option_map f) is))
 
+-- what stands behind a line is shorter
 pub shorter_behind : {X : Type 0} (f : X → List ℕ) (bytes : List ℕ) (behind : Option X) (x : X) → option_map f behind ≡ behind_cut (len_before 10 bytes) bytes → behind ≡ Some x → length (f x) < length bytes
 shorter_behind f bytes behind x q is = go (nat_lt n (length bytes)) refl (sym (ap (option_map f) is) ∙ q)
   where

@@ -2,6 +2,7 @@
 use Rattle.std.specs.Prelude.{◌≡◌, ℕ, List, [], ◌∷◌, Bool, false, ◌++◌, Option, Some, None, Result, Ok, Err}
 use Rattle.cert_text.specs.declared.stop.Stop.{Stop}
 use Rattle.cert_text.specs.declared.stop.Stop.TheVariants.{Form, Memory}
+use Rattle.sparse_poly.specs.Poly.{Polynomial}
 use Rattle.cert_grammar.specs.Lines.{Word, Line, same_line}
 use Rattle.entry_code.specs.declared.reading.Reading.{Reading}
 
@@ -26,7 +27,7 @@ pub data IsUnended : List Line → Type 0 where
   without_end : IsUnended ([] ∷ [])
 
 -- readings in front of those that are read
-abbrev pub with_front : List Reading → Result ((List Reading × Word) × List Line) (List Line) → Result ((List Reading × Word) × List Line) (List Line)
+abbrev pub with_front : List Reading → Result ((List Reading × Polynomial) × List Line) (List Line) → Result ((List Reading × Polynomial) × List Line) (List Line)
 with_front rs (Ok x) = Ok ((rs ++ x.0.0, x.0.1), x.1)
 with_front rs (Err s) = Err s
 
@@ -41,8 +42,8 @@ GivesLine (Ok x) left read = read ≡ Ok left
 GivesLine (Err Form) left read = read ≡ Err left
 GivesLine (Err Memory) left read = Unit {0}
 
--- words in front of those that are read
-abbrev pub with_words : List Word → Option (List Word × List Word) → Option (List Word × List Word)
+-- members in front of those that are read of words
+abbrev pub with_words : {A : Type 0} → List A → Option (List A × List Word) → Option (List A × List Word)
 with_words ms None = None
 with_words ms (Some x) = Some (ms ++ x.0, x.1)
 

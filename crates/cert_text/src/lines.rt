@@ -8,12 +8,13 @@ ghost use Rattle.cert_grammar.specs.Phrases.{keyword_at, whole, behind_word, one
 ghost use Rattle.cert_text.specs.Gives.{Gives, IsUnended, with_front};
 ghost use Rattle.cert_grammar.specs.Reading.{line_at, reading_of, poly_of, step_of, reads_at, item_of, generator_of, pair_of, entry_at, numbered_of, counted_at, times_at};
 
-use crate::ring::is_nonzero_poly;
+use crate::ring::nonzero_in_word;
 use crate::stop::Stop;
 use crate::words::{Words, cut, is_ended, keyword, next, number, numeral, words_in};
-use cert_grammar::{Entry, Ring, Step, Text};
+use cert_grammar::{Entry, Ring, Step};
 use entry_code::{Item, Reading};
 use itoa::Buffer;
+use sparse_poly::Poly;
 use std::alloc::{AllocError, Global};
 use std::marker::Model;
 
@@ -54,16 +55,13 @@ fn reading_in(line: &[u8]) -> Option<Reading>
 }
 
 /// The polynomial of an entry's last line.
-fn poly_in<'a>(alloc: Global, ring: &Ring, line: &'a [u8]) -> Result<Option<&'a [u8]>, AllocError>
-    ensures { IfOk result (λ o. option_map (λ t. t.now) o ≡ poly_of ring.now (words_of line.now)) }
+fn poly_in(alloc: Global, ring: &Ring, line: &[u8]) -> Result<Option<Poly>, AllocError>
+    ensures { IfOk result (λ o. o ≡ poly_of ring.now (words_of line.now)) }
 {
     let Some(word) = word_behind(b"poly", line) else {
         return Ok(None);
     };
-    if is_nonzero_poly(alloc, ring, word)? {
-        return Ok(Some(word));
-    }
-    Ok(None)
+    nonzero_in_word(alloc, ring, word)
 }
 
 /// The word behind this one, where the line has just the two.
@@ -177,10 +175,9 @@ impl<'a> Lines<'a> {
         let Some((line, rest)) = self.front() else {
             return Err(Stop::Form);
         };
-        if let Some(word) = poly_in(alloc, ring, line)? {
-            let text = Text::new(alloc, word)?;
+        if let Some(poly) = poly_in(alloc, ring, line)? {
             self.left = rest;
-            return Ok(Step::Last(text));
+            return Ok(Step::Last(poly));
         }
         let Some(reading) = reading_in(line) else {
             return Err(Stop::Form);
@@ -195,7 +192,7 @@ impl<'a> Lines<'a> {
         alloc: Global,
         ring: &Ring,
         first: Reading,
-    ) -> Result<(Vec<Reading>, Text), Stop>
+    ) -> Result<(Vec<Reading>, Poly), Stop>
         ensures { Gives (λ x. (x.0.items, x.1)) result self.new (with_front (first ∷ []) (reads_at ring.now self.old)) }
     {
         let mut reads = Vec::new(alloc);

@@ -4,16 +4,17 @@ ghost use Rattle.std.specs.Prelude.{◌≡◌, ◌∷◌, [], nat_le, codes, opt
 ghost use Rattle.std.specs.Option.{option_map};
 ghost use Rattle.cert_grammar.specs.Lines.{words_of, same_line};
 ghost use Rattle.cert_text.specs.Gives.{Gives};
-ghost use Rattle.cert_grammar.specs.Phrases.{whole, one_word, behind_word, word_of, words_times, keyword_at, number_at};
-ghost use Rattle.cert_grammar.specs.Words.{is_mono};
+ghost use Rattle.cert_grammar.specs.Phrases.{whole, one_word, behind_word, words_times, keyword_at, number_at};
+ghost use Rattle.cert_grammar.specs.Words.{mono_of_word};
 ghost use Rattle.cert_grammar.specs.Reading.{line_at, verdict_of, stair_of, fitting_at, verdict_at};
 
 use crate::lines::Lines;
 use crate::members::alone_in;
-use crate::ring::{is_mono_word, is_top_word};
+use crate::ring::{mono_in_word, top_in_word};
 use crate::stop::Stop;
 use crate::words::{Words, is_ended, keyword, next, number, words_in};
-use cert_grammar::{Fitting, Ring, Text, Verdict};
+use cert_grammar::{Fitting, Ring, Verdict};
+use local_order::Mono;
 use std::alloc::{AllocError, Global};
 
 /// Whether the line says that the degree fits.
@@ -38,18 +39,15 @@ fn small_in(line: &[u8]) -> Option<&[u8]>
 }
 
 /// The verdict of its line: nothing where the degree fits, else the monomial that is missing.
-fn verdict_in<'a>(ring: &Ring, line: &'a [u8]) -> Option<Option<&'a [u8]>>
-    ensures { option_map (λ o. option_map (λ t. t.now) o) result ≡ verdict_of ring.now (words_of line.now) }
+fn verdict_in(ring: &Ring, line: &[u8]) -> Option<Option<Mono>>
+    ensures { result ≡ verdict_of ring.now (words_of line.now) }
 {
     if is_fits(line) {
         return Some(None);
     }
     let word = small_in(line)?;
-    if is_top_word(ring, word) {
-        Some(Some(word))
-    } else {
-        None
-    }
+    let m = top_in_word(ring, word)?;
+    Some(Some(m))
 }
 
 /// The number of monomials of a staircase, and the words behind it.
@@ -66,8 +64,8 @@ fn stair_words<'a>(
     ring: &Ring,
     count: u32,
     words: Words<'a>,
-) -> Result<Option<(Vec<Text>, Words<'a>)>, AllocError>
-    ensures { IfOk result (λ o. option_map (λ x. (x.0.items, x.1)) o ≡ words_times (one_word (word_of (is_mono ring.now))) count words.entry) }
+) -> Result<Option<(Vec<Mono>, Words<'a>)>, AllocError>
+    ensures { IfOk result (λ o. option_map (λ x. (x.0.items, x.1)) o ≡ words_times (one_word (mono_of_word ring.now)) count words.entry) }
 {
     let mut stair = Vec::new(alloc);
     let mut left = words;
@@ -75,17 +73,17 @@ fn stair_words<'a>(
         let Some((word, rest)) = next(left) else {
             return Ok(None);
         };
-        if !is_mono_word(ring, word) {
+        let Some(m) = mono_in_word(ring, word) else {
             return Ok(None);
-        }
-        stair.push(Text::new(alloc, word)?)?;
+        };
+        stair.push(m)?;
         left = rest;
     }
     Ok(Some((stair, left)))
 }
 
 /// The monomials of the staircase's line.
-fn stair_in(alloc: Global, ring: &Ring, line: &[u8]) -> Result<Option<Vec<Text>>, AllocError>
+fn stair_in(alloc: Global, ring: &Ring, line: &[u8]) -> Result<Option<Vec<Mono>>, AllocError>
     ensures { IfOk result (λ o. option_map (λ v. v.items) o ≡ stair_of ring.now (words_of line.now)) }
 {
     let Some((count, words)) = stair_count(line) else {
@@ -102,7 +100,7 @@ fn stair_in(alloc: Global, ring: &Ring, line: &[u8]) -> Result<Option<Vec<Text>>
 
 impl<'a> Lines<'a> {
     /// Takes the line of the staircase.
-    fn stair(&mut self, alloc: Global, ring: &Ring) -> Result<Vec<Text>, Stop>
+    fn stair(&mut self, alloc: Global, ring: &Ring) -> Result<Vec<Mono>, Stop>
         ensures { Gives (λ v. v.items) result self.new (line_at (stair_of ring.now) self.old) }
     {
         let Some((line, rest)) = self.front() else {
@@ -116,7 +114,7 @@ impl<'a> Lines<'a> {
     }
 
     /// Takes the line of the verdict.
-    fn verdict_line(&mut self, alloc: Global, ring: &Ring) -> Result<Option<Text>, Stop>
+    fn verdict_line(&mut self, ring: &Ring) -> Result<Option<Mono>, Stop>
         ensures { Gives (λ x. x) result self.new (line_at (verdict_of ring.now) self.old) }
     {
         let Some((line, rest)) = self.front() else {
@@ -125,13 +123,8 @@ impl<'a> Lines<'a> {
         let Some(verdict) = verdict_in(ring, line) else {
             return Err(Stop::Form);
         };
-        let Some(word) = verdict else {
-            self.left = rest;
-            return Ok(None);
-        };
-        let text = Text::new(alloc, word)?;
         self.left = rest;
-        Ok(Some(text))
+        Ok(verdict)
     }
 
     /// Takes what stands behind `fits`.
@@ -139,7 +132,7 @@ impl<'a> Lines<'a> {
         ensures { Gives (λ x. x) result self.new (fitting_at ring.now self.old) }
     {
         let basis = self.basis(alloc, ring)?;
-        let corner = self.corner(alloc, ring)?;
+        let corner = self.corner(ring)?;
         let stair = self.stair(alloc, ring)?;
         Ok(Fitting::new(basis, corner, stair))
     }
@@ -148,7 +141,7 @@ impl<'a> Lines<'a> {
     pub(crate) fn verdict(&mut self, alloc: Global, ring: &Ring) -> Result<Verdict, Stop>
         ensures { Gives (λ x. x) result self.new (verdict_at ring.now self.old) }
     {
-        match self.verdict_line(alloc, ring)? {
+        match self.verdict_line(ring)? {
             Some(missing) => Ok(Verdict::TooSmall(missing)),
             None => {
                 let fitting = self.fitting(alloc, ring)?;

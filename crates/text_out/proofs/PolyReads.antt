@@ -138,7 +138,7 @@ pub record IsPrinted (p : ℕ) (letters : List ℕ) (t : Term) : Type 0 where
   pub below : t.coef < p
 
 -- the printed size of a residue is below 2^64
-size_small : (p c : ℕ) → p < 2 ^ 64 → c < p → (sign_form p c).1 < 2 ^ 64
+pub size_small : (p c : ℕ) → p < 2 ^ 64 → c < p → (sign_form p c).1 < 2 ^ 64
 size_small p c h k = go (nat_le c (p / 2))
   where
     go : (b : Bool) → (cond {A = Bool × ℕ} b (false, c) (true, p - c)).1 < 2 ^ 64
@@ -316,7 +316,7 @@ poly_again p letters (t ∷ ts) low d h =
 
 -- ---- as the contracts say it
 -- exponents within the limit are below 2^64
-small_of : (m : List ℕ) → All (λ e. e ≤ max_exponent) m → AreSmall m
+pub small_of : (m : List ℕ) → All (λ e. e ≤ max_exponent) m → AreSmall m
 small_of [] h = tt
 small_of (e ∷ m) h = (let p : e ≤ max_exponent = h 0 0 (omega arith) in omega arith, small_of m (λ k z i. h (suc k) z (omega (arith, i))))
 

@@ -1,14 +1,14 @@
-use Rattle.std.proofs.Common.{codes, sym, ◌∙◌, ap}
+use Rattle.std.proofs.Common.{◌≡◌, codes, Option, Some, sym, ◌∙◌, ap, subst}
+use Rattle.std.specs.Prelude.{IfOk}
 use Rattle.std.specs.Option.{option_map}
+use Rattle.sparse_poly.specs.Poly.{Polynomial}
 use Rattle.cert_grammar.specs.Lines.{words_of}
-use Rattle.cert_grammar.specs.Words.{is_nonzero}
-use Rattle.cert_text.proofs.LineReads.{behind_true, behind_false}
+use Rattle.cert_grammar.specs.Words.{nonzero_of_word}
+use Rattle.cert_text.proofs.LineReads.{behind_told}
 use Rattle.cert_text.proofs.lines.poly_in.Goals as goal
-
-pub returns-then-branch : goal.returns-then-branch
-returns-then-branch c =
-    sym (behind_true (codes "poly") (is_nonzero c.args.ring.now) (words_of c.args.line.now) c.in-Some.word.now (sym c.word_behind.ensures ∙ ap (option_map (λ s. s.now)) c.in-Some.is) (sym c.in_ok-is_nonzero_poly.ensures ∙ c.if-branch.true))
 
 pub returns : goal.returns
 returns c =
-    sym (behind_false (codes "poly") (is_nonzero c.args.ring.now) (words_of c.args.line.now) c.in-Some.word.now (sym c.word_behind.ensures ∙ ap (option_map (λ s. s.now)) c.in-Some.is) (sym c.in_ok-is_nonzero_poly.ensures ∙ c.if-branch.false))
+    subst (λ (z : Option Polynomial). IfOk c.nonzero_in_word.result (λ o. o ≡ z))
+    (sym (behind_told (codes "poly") (nonzero_of_word c.args.ring.now) (words_of c.args.line.now) (Some c.in-Some.word.now) (sym c.word_behind.ensures ∙ ap (option_map (λ s. s.now)) c.in-Some.is)))
+    c.nonzero_in_word.ensures

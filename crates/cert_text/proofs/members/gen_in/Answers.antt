@@ -1,10 +1,14 @@
-use Rattle.std.proofs.Common.{sym, ◌∙◌, ap}
+use Rattle.std.proofs.Common.{◌≡◌, Option, Some, sym, ◌∙◌, ap, subst}
+use Rattle.std.specs.Prelude.{IfOk}
 use Rattle.std.specs.Option.{option_map}
+use Rattle.sparse_poly.specs.Poly.{Polynomial}
 use Rattle.cert_grammar.specs.Lines.{words_of}
-use Rattle.cert_grammar.specs.Words.{is_poly}
-use Rattle.cert_text.proofs.LineReads.{alone_false}
+use Rattle.cert_grammar.specs.Words.{poly_of_word}
+use Rattle.cert_text.proofs.LineReads.{alone_told}
 use Rattle.cert_text.proofs.members.gen_in.Goals as goal
 
 pub returns : goal.returns
 returns c =
-    sym (alone_false (is_poly c.args.ring.now) (words_of c.args.line.now) c.in-Some.word.now (sym c.alone_in.ensures ∙ ap (option_map (λ s. s.now)) c.in-Some.is) (sym c.in_ok-is_poly_word.ensures ∙ c.if-branch.false))
+    subst (λ (z : Option Polynomial). IfOk c.poly_in_word.result (λ o. o ≡ z))
+    (sym (alone_told (poly_of_word c.args.ring.now) (words_of c.args.line.now) (Some c.in-Some.word.now) (sym c.alone_in.ensures ∙ ap (option_map (λ s. s.now)) c.in-Some.is)))
+    c.poly_in_word.ensures

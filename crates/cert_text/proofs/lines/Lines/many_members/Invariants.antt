@@ -1,8 +1,8 @@
 use Rattle.std.proofs.Common.{◌≡◌, ◌-◌}
 use Rattle.cert_text.specs.Gives.{with_items}
-use Rattle.cert_grammar.specs.Words.{is_nonzero}
+use Rattle.cert_grammar.specs.Words.{nonzero_of_word}
 use Rattle.cert_grammar.specs.Reading.{poly_alone, times_at}
 use Rattle.cert_text.proofs.lines.Lines.many_members.Given as goal
 
 abbrev pub invariant-loop-i : goal.invariant-loop-i
-invariant-loop-i l = with_items l.members.items (times_at (poly_alone (is_nonzero l.ring)) (l.count - l.i) l.i l.self) ≡ times_at (poly_alone (is_nonzero l.ring)) l.count 0 l.fn.self
+invariant-loop-i l = with_items l.members.items (times_at (poly_alone (nonzero_of_word l.ring)) (l.count - l.i) l.i l.self) ≡ times_at (poly_alone (nonzero_of_word l.ring)) l.count 0 l.fn.self
