@@ -1,18 +1,10 @@
 -- The ranks that are marked are those that a cover shows.
 -- A rank is in the list exactly where its mark is set, by induction along the marks.
-use Rattle.std.proofs.Common.{◌≡◌, ℕ, zero, suc, ◌-◌, ◌<◌, ◌≤◌, ◌↔◌, ◌⊎◌, List, [], ◌∷◌, get_or, Bool, true, false, IsTrue, refl, ap, sym, ◌∙◌, subst, inl, inr, arith}
+use Rattle.std.proofs.Common.{◌≡◌, ℕ, suc, ◌-◌, ◌<◌, ◌≤◌, ◌↔◌, ◌⊎◌, List, [], ◌∷◌, Bool, true, false, IsTrue, ap, sym, ◌∙◌, subst, inl, inr, arith}
 use Rattle.std.specs.List.{Contains}
 use Rattle.std.proofs.lemmas.Bool.{cases_lt}
+use Rattle.mono_rank.proofs.Members.{first_or_rest, in_rest}
 use Rattle.corner_word.specs.Marks.{mark_at, marked_from}
-
--- a member is the first or one of the others
-first_or_rest : (x y : ℕ) (xs : List ℕ) → Contains (x ∷ xs) y → (x ≡ y) ⊎ Contains xs y
-first_or_rest x y xs (zero, l, e) = inl e
-first_or_rest x y xs (suc k, l, e) = inr (k, omega (arith, l), e)
-
--- one of the others is a member
-in_rest : (x y : ℕ) (xs : List ℕ) → Contains xs y → Contains (x ∷ xs) y
-in_rest x y xs (k, l, e) = (suc k, omega (arith, l), e)
 
 -- the mark of a later rank is that among the other marks
 later : (b : Bool) (marks : List Bool) (k r : ℕ) → suc k ≤ r → mark_at (b ∷ marks) (r - k) ≡ mark_at marks (r - suc k)

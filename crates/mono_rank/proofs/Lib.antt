@@ -12,4 +12,6 @@ pub mod Degrees
 pub mod Products
 pub mod Quotients
 pub mod Numbers
+pub mod Divided
 pub mod Corners
+pub mod Members

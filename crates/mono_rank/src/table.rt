@@ -1,11 +1,12 @@
 //! Tables of ranks.
 
-ghost use Rattle.std.specs.Prelude.{◌≡◌, ℕ, List, ◌+◌, ◌<◌, ◌≤◌, ◌↔◌, length, IsTrue, MatchOption, MatchResult};
+ghost use Rattle.std.specs.Prelude.{◌≡◌, ℕ, List, ◌+◌, ◌<◌, ◌≤◌, ◌↔◌, length, IsTrue, IfSome, MatchOption, MatchResult};
 ghost use Rattle.local_order.specs.Limits.{max_degree, max_variables};
 ghost use Rattle.local_order.specs.Mono.{degree, mono_times, Divides};
 ghost use Rattle.local_order.specs.Count.{monomial_count};
 ghost use Rattle.local_order.specs.Shape.{Shape, count};
 ghost use Rattle.mono_rank.specs.Rank.{HasRank, fewer};
+ghost use Rattle.mono_rank.specs.Laws.{numbering, rank_quotient, rank_cofactor};
 ghost use Rattle.mono_rank.specs.Next.{run_of};
 ghost use Rattle.mono_rank.specs.Stored.{HasLimits};
 ghost use Rattle.mono_rank.specs.Table.{IsRefusal};
@@ -142,6 +143,31 @@ impl RankTable {
     {
         let product = self.monos[a as usize].times(&self.monos[b as usize])?;
         self.rank(&product)
+    }
+
+    /// The rank of the quotient of the monomial of one rank by that of another. There is none where it doesn't divide.
+    /// It costs two look-ups, a difference for each of eight exponents, and what [`RankTable::rank`] costs.
+    pub fn quotient_rank(&self, rank: u32, divisor: u32) -> Option<u32>
+        requires whole { rank < count self.now }
+        requires part { divisor < count self.now }
+        ensures value { result ≡ rank_quotient (numbering self.now) rank divisor }
+        ensures low { IfSome result (λ q. q < count self.now) }
+    {
+        let quotient = self.mono(rank).quotient(&self.mono(divisor))?;
+        self.rank(&quotient)
+    }
+
+    /// The rank of what the monomial of rank `a` lacks to its least common multiple with that of rank `b`.
+    pub fn cofactor_rank(&self, a: u32, b: u32) -> u32
+        requires first { a < count self.now }
+        requires second { b < count self.now }
+        ensures value { result ≡ rank_cofactor (numbering self.now) a b }
+        ensures low { result < count self.now }
+    {
+        let mono = self.mono(a);
+        let lcm = mono.lcm(&self.mono(b));
+        let cofactor = lcm.quotient(&mono).unwrap();
+        self.rank(&cofactor).unwrap()
     }
 
     /// How many ranks from this one on form a run: their monomials come from the first by trading powers of the first variable for

@@ -15,18 +15,17 @@ use Rattle.rank_algebra.specs.Rows.{vector_of_row}
 use Rattle.mono_rank.specs.Rows.{SubtractsMultiple, IsRowOf}
 use Rattle.rank_algebra.specs.Vector.{Same, shift, less, Agree}
 use Rattle.rank_algebra.specs.Division.{pair}
-use Rattle.mora_law.specs.Ring.{numbering_of, ranks_of_problem, vector_of, generators_of}
+use Rattle.mora_law.specs.Ring.{numbering_of, ranks_of_problem, vector_of, generators_of, ring}
 use Rattle.rank_algebra.proofs.Residues.{same_refl, same_of, same_trans, same_add, same_minus_minus, same_mod}
 use Rattle.rank_algebra.proofs.Linear.{agree_trans}
-use Rattle.mora_law.proofs.Ring.{ranks_p, mono_is}
+use Rattle.mora_law.proofs.Ring.{ranks_p, mono_is, ring_of_problem, ring_p, ring_count, ring_cofactor}
 use Rattle.entry_code.specs.declared.item.Item.TheVariants.{Pair}
 use Rattle.ecart.specs.declared.summary.Summary.{Summary}
 use Rattle.ecart.specs.Choice.{summary_at}
 use Rattle.mora_form.specs.Reducers.{row_at}
-use Rattle.mora_form.specs.State.{ring}
 use Rattle.mora_form.specs.Begin.{basis_in}
 use Rattle.mora_law.specs.Start.{start_of}
-use Rattle.mora_form.proofs.Vectors.{ring_of_problem, ring_p, ring_count, ring_cofactor, subtract_vector}
+use Rattle.mora_form.proofs.Vectors.{subtract_vector}
 
 -- ---- generators
 -- what a list of polynomials lends

@@ -13,8 +13,9 @@ use Rattle.rank_algebra.specs.Vector.{Vector, scale}
 use Rattle.mora_law.specs.Lead.{is_none_at}
 use Rattle.mora_law.specs.Entries.{terms_of, monic_by, monic}
 use Rattle.mora_law.proofs.Terms.{term_by, terms_from, terms_walk}
-use Rattle.mora_form.specs.State.{ring}
-use Rattle.mora_form.proofs.Vectors.{ring_p, ring_count, ring_inverse, lead_of_row}
+use Rattle.mora_law.specs.Ring.{ring}
+use Rattle.mora_form.proofs.Vectors.{lead_of_row}
+use Rattle.mora_law.proofs.Ring.{ring_p, ring_count, ring_inverse}
 
 -- with the terms from a rank on the list has all terms
 pub record TermsTo (p : ℕ) (T : Shape) (v : Vector) (rank : ℕ) (list : List Term) : Type 0 where

@@ -1,5 +1,4 @@
 pub mod Learning
-pub mod Quotients
 pub mod Readings
 pub mod Vectors
 pub mod Drafts

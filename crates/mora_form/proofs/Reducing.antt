@@ -23,10 +23,12 @@ use Rattle.ecart.specs.declared.choice.Choice.{Choice}
 use Rattle.ecart.specs.declared.choice.Choice.TheVariants.{Entry, Kept}
 use Rattle.ecart.specs.Choice.{no_summary, summary_at, ecart_of, IsSummary, IsChoice, IsNoChoice}
 use Rattle.mora_form.specs.Reducers.{row_at, AreRows, IsSummaryOf, AreSummarized}
-use Rattle.mora_form.specs.State.{ring, entry_vector}
+use Rattle.mora_form.specs.State.{entry_vector}
+use Rattle.mora_law.specs.Ring.{ring}
 use Rattle.mora_form.specs.Chosen.{IsThere, chosen_summary, chosen_row, with_kept}
 use Rattle.mora_form.specs.Reduction.{IsReduced, IsStepOn}
-use Rattle.mora_form.proofs.Vectors.{ring_quotient, lead_of_row}
+use Rattle.mora_form.proofs.Vectors.{lead_of_row}
+use Rattle.mora_law.proofs.Ring.{ring_quotient}
 use Rattle.mora_form.proofs.Summaries.{ecart_of_row}
 use Rattle.mora_law.proofs.Least.{none_chosen, least_chosen}
 

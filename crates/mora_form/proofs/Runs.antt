@@ -1,8 +1,8 @@
 -- Runs and the entries that they know: the run over rows is the run over the entries.
 -- It stays so when an entry is learnt, since the readings so far knew the earlier ones alone.
-use Rattle.std.proofs.Common.{◌≡◌, ℕ, zero, suc, ◌+◌, ◌-◌, ◌*◌, ◌%◌, ◌<◌, ◌≤◌, ◌⊎◌, List, [], ◌∷◌, ◌++◌, length, take, All, Bool, true, false, cond, eqb, Option, Some, None, slice_get, refl, ap, sym, ◌∙◌, inl, inr, subst, arith}
-use Rattle.std.proofs.lemmas.Bool.{cases_lt, eq-eqb, ne_eqb}
-use Rattle.std.proofs.lemmas.List.{get_or_default, get_or_push, length-append, get_or_append_left}
+use Rattle.std.proofs.Common.{◌≡◌, ℕ, zero, suc, ◌+◌, ◌-◌, ◌*◌, ◌%◌, ◌<◌, ◌≤◌, ◌⊎◌, List, [], ◌∷◌, ◌++◌, length, take, All, true, cond, Option, Some, None, slice_get, refl, ap, sym, ◌∙◌, inl, inr, subst, arith}
+use Rattle.std.proofs.lemmas.Bool.{cases_lt, eq-eqb}
+use Rattle.std.proofs.lemmas.List.{take_all, get_or_push, length-append, get_or_append_left}
 use Rattle.std.proofs.lemmas.List.Elements.{All-take}
 use Rattle.prime_field.specs.Prime.{InTable}
 use Rattle.prime_field.specs.Inverse.{inverse}
@@ -15,17 +15,19 @@ use Rattle.entry_code.specs.declared.item.Item.TheVariants.{Generator, Pair}
 use Rattle.entry_code.specs.declared.reading.Reading.{Reading}
 use Rattle.entry_code.specs.declared.term.Term.{Term}
 use Rattle.entry_code.specs.Entry.{Entry, no_entry, entry_at}
-use Rattle.rank_algebra.specs.Rows.{IsRow, BeginsAt, vector_of_row}
-use Rattle.trunc_row.specs.Rows.{term_coef, IsRowOfTerms}
+use Rattle.rank_algebra.specs.Rows.{BeginsAt, vector_of_row}
+use Rattle.trunc_row.specs.Rows.{IsRowOfTerms}
+use Rattle.trunc_row.proofs.TermRows.{coef-none}
 use Rattle.rank_algebra.specs.Vector.{Vector, scale, shift, less, Agree}
 use Rattle.rank_algebra.specs.Division.{pair}
-use Rattle.mora_law.specs.Ring.{ranks_of_problem, generators_of}
+use Rattle.mora_law.specs.Ring.{ranks_of_problem, generators_of, ring}
 use Rattle.rank_algebra.specs.Ideal.{Generators}
 use Rattle.rank_algebra.proofs.Linear.{agree_refl, agree_of, agree_trans, agree_add, agree_scale, agree_shift}
 use Rattle.mora_law.specs.Lead.{lead}
 use Rattle.mora_law.specs.Step.{Run, step}
 use Rattle.mora_law.specs.Run.{steps, begin}
-use Rattle.mora_law.specs.Entries.{vector_of_terms, terms_of, monic_by, monic, lead_rank, basis_of}
+use Rattle.mora_law.specs.Entries.{terms_of, monic_by, monic, lead_rank, basis_of}
+use Rattle.entry_code.specs.Terms.{vector_of_terms}
 use Rattle.mora_law.specs.declared.step_end.StepEnd.{StepEnd}
 use Rattle.mora_law.specs.Legal.{IsItemOf, EndsWith}
 use Rattle.mora_law.specs.Start.{start_of, start, run}
@@ -37,46 +39,26 @@ use Rattle.mora_law.proofs.Alike.{same_lead}
 use Rattle.ecart.specs.declared.summary.Summary.{Summary}
 use Rattle.ecart.specs.Choice.{summary_at}
 use Rattle.mora_form.specs.Reducers.{row_at, AreSummarized}
-use Rattle.mora_form.specs.State.{State, ring, ring_of, entry_vector, run_in, Knows, IsOver, HasRun, AreMonicTerms, draft_in, draft_of}
+use Rattle.mora_form.specs.State.{State, ring_of, entry_vector, run_in, Knows, IsOver, HasRun, AreMonicTerms, draft_in, draft_of}
 use Rattle.mora_form.specs.Begin.{basis_in}
-use Rattle.mora_form.proofs.Vectors.{ring_of_problem, ring_p, ring_count, ring_inverse, ring_laws}
+use Rattle.mora_law.proofs.Ring.{ring_of_problem, ring_p, ring_count, ring_inverse, ring_laws}
 
 -- ---- an entry that is learnt
--- the vector of terms has their coefficients
-pub vector_coef : (ts : List Term) (r : ℕ) → vector_of_terms ts r ≡ term_coef ts r
-vector_coef [] r = refl
-vector_coef (t ∷ ts) r = ap (cond (eqb t.rank r) t.coef) (vector_coef ts r)
-
--- at a rank that no term has there is nothing
-coef_none : (ts : List Term) (r : ℕ) → ((i : ℕ) (t : Term) → slice_get ts i ≡ Some t → t.rank ≡ r → ⊥) → term_coef ts r ≡ 0
-coef_none [] r h = refl
-coef_none (t ∷ ts) r h = ap (λ b. cond b t.coef (term_coef ts r)) (ne_eqb t.rank r (h 0 t refl)) ∙ coef_none ts r (λ i u e. h (suc i) u e)
-
--- coefficients of residues are residues
-coef_small : (p : ℕ) → 0 < p → (ts : List Term) (r : ℕ) → All (λ t. (0 < t.coef) × (t.coef < p)) ts → term_coef ts r < p
-coef_small p l [] r h = l
-coef_small p l (t ∷ ts) r h = go (eqb t.rank r) (coef_small p l ts r (λ k x m. h (suc k) x (omega (arith, m))))
-  where
-    go : (b : Bool) → term_coef ts r < p → cond b t.coef (term_coef ts r) < p
-    go true m = (h 0 t (omega arith)).1
-    go false m = m
-
 -- the row begins at the first term
 pub terms_begin : (p places : ℕ) (ts : List Term) (r : List ℕ) → AreMonicTerms p places ts → IsRowOfTerms places ts r → BeginsAt r (lead_rank ts)
 terms_begin p places [] r h w = absurd (omega (arith, h.some))
 terms_begin p places (t ∷ ts) r h w = record {
   within = omega (arith, w.full, h.ranks.low 0 t (omega arith));
-  some = λ e. omega (arith, e, w.coefs t.rank, ap (λ b. cond b t.coef (term_coef ts t.rank)) (eq-eqb t.rank t.rank refl), h.one);
-  before = λ k l. w.coefs k ∙ coef_none (t ∷ ts) k (λ i u e f. apart k l i u e f);
+  some = λ e. omega (arith, e, w.coefs t.rank, ap (λ b. cond b t.coef (vector_of_terms ts t.rank)) (eq-eqb t.rank t.rank refl), h.one);
+  before = λ k l.
+      w.coefs k
+      ∙ ap (λ s. vector_of_terms s k) (sym (take_all (length (t ∷ ts)) (t ∷ ts) (omega arith)))
+      ∙ coef-none (t ∷ ts) (length (t ∷ ts)) k (λ i u m e f. apart k l i u e f);
 }
   where
     apart : (k : ℕ) → k < t.rank → (i : ℕ) (u : Term) → slice_get (t ∷ ts) i ≡ Some u → u.rank ≡ k → ⊥
     apart k l zero u e f = let same : t ≡ u = cc e in omega (arith, ap (λ x. x.rank) same, f, l)
     apart k l (suc i) u e f = omega (arith, h.ranks.rising 0 (suc i) t u (omega arith) refl e, f, l)
-
--- the row of an entry's terms has residues
-pub terms_row : (p places : ℕ) (ts : List Term) (r : List ℕ) → 0 < p → AreMonicTerms p places ts → IsRowOfTerms places ts r → IsRow p places r
-terms_row p places ts r l h w = record { full = w.full; residues = λ k x m. subst (λ y. y < p) (sym (get_or_default r k x 0 m ∙ w.coefs k)) (coef_small p l ts k h.residues) }
 
 -- the first term
 pub first_term : (ts : List Term) (t : Term) → slice_get ts 0 ≡ Some t → t.rank ≡ lead_rank ts
@@ -100,7 +82,7 @@ knows_more entries e s r m w h = record {
         let here : length entries ≡ k = omega (arith, l, b, length-append entries (e ∷ [])) in
         subst (λ x. Agree (ring_of s) (ring_of s).n (vector_of_row x) (vector_of_terms (entry_at (entries ++ e ∷ []) k).terms)) (sym (get_or_push s.known r [] k (h.all ∙ here)))
         (subst (λ x. Agree (ring_of s) (ring_of s).n (vector_of_row r) (vector_of_terms x.terms)) (sym (get_or_push entries e no_entry k here))
-        (agree_of (ring_of s) (ring_of s).n (vector_of_row r) (vector_of_terms e.terms) (λ x y. w.coefs x ∙ sym (vector_coef e.terms x))))
+        (agree_of (ring_of s) (ring_of s).n (vector_of_row r) (vector_of_terms e.terms) (λ x y. w.coefs x)))
 
     begins_at : (k : ℕ) → k < length (entries ++ e ∷ []) → (k < length entries) ⊎ (length entries ≤ k) → BeginsAt (row_at (s.known ++ r ∷ []) k) (lead_rank (entry_at (entries ++ e ∷ []) k).terms)
     begins_at k l (inl b) = subst (λ x. BeginsAt x (lead_rank (entry_at (entries ++ e ∷ []) k).terms)) (sym (get_or_append_left s.known (r ∷ []) [] k (omega (arith, b, h.all))))

@@ -13,7 +13,7 @@ use Rattle.entry_code.specs.declared.reading.Reading.{Reading}
 use Rattle.entry_code.specs.Entry.{Entry}
 use Rattle.rank_algebra.specs.Rows.{IsRow, IsZeroRow, BeginsAt, IsCutAt, vector_of_row}
 use Rattle.rank_algebra.specs.Vector.{Vector, cut_at}
-use Rattle.mora_law.specs.Ring.{ranks_of_problem}
+use Rattle.mora_law.specs.Ring.{ranks_of_problem, ring}
 use Rattle.rank_algebra.proofs.Linear.{agree_trans}
 use Rattle.mora_law.specs.declared.step_end.StepEnd.{StepEnd}
 use Rattle.mora_law.specs.declared.step_end.StepEnd.TheVariants.{Zero, Reduced, Stuck}
@@ -26,11 +26,11 @@ use Rattle.mora_law.specs.Legal.{IsItemOf}
 use Rattle.mora_law.specs.Alike.{AllAlike, RunAlike}
 use Rattle.mora_law.proofs.Alike.{step_alike}
 use Rattle.mora_law.proofs.Readings.{steps_more, stuck_dropped}
-use Rattle.mora_form.specs.State.{State, ring, ring_of, entry_vector, run_in, without_last, is_stuck, recorded, Knows, HasRun}
+use Rattle.mora_form.specs.State.{State, ring_of, entry_vector, run_in, without_last, is_stuck, recorded, Knows, HasRun}
 use Rattle.mora_form.specs.Held.{HasGone}
 use Rattle.mora_form.specs.Reduction.{IsAdvance, goes_on, steps_after}
 use Rattle.mora_form.proofs.Readings.{without_last-append}
-use Rattle.mora_form.proofs.Vectors.{ring_laws}
+use Rattle.mora_law.proofs.Ring.{ring_laws}
 use Rattle.mora_form.proofs.Runs.{ring_same}
 
 -- ---- runs that are alike

@@ -13,9 +13,10 @@ use Rattle.trunc_row.proofs.Residues.{row_small, row_mod}
 use Rattle.rank_algebra.specs.Vector.{Same, coef_at, shift}
 use Rattle.rank_algebra.proofs.Residues.{same_refl, same_of, same_trans, same_add, same_mul, same_times, same_gone, same_mod}
 use Rattle.rank_algebra.proofs.Linear.{agree_trans, inverse_same}
-use Rattle.mora_form.specs.State.{ring}
+use Rattle.mora_law.specs.Ring.{ring}
 use Rattle.mora_form.specs.Reduction.{IsReduced}
-use Rattle.mora_form.proofs.Vectors.{ring_p, ring_count, ring_quotient, ring_inverse, ring_laws, residue_same, begins_lead, subtract_vector}
+use Rattle.mora_form.proofs.Vectors.{residue_same, begins_lead, subtract_vector}
+use Rattle.mora_law.proofs.Ring.{ring_p, ring_count, ring_quotient, ring_inverse, ring_laws}
 
 module _ (p : ℕ) (T : Shape) (t : InTable p) (some : 1 ≤ T.variables) (g r : List ℕ) (wg : IsRow p (count T) g) (wr : IsRow p (count T) r) (lead low a : ℕ) (b : BeginsAt r lead) (bg : BeginsAt g low)
     (e : rank_quotient (numbering T) lead low ≡ Some a) (la : a < count T) where

@@ -18,8 +18,9 @@ use Rattle.rank_algebra.proofs.Searches.{greatest_low, greatest_high}
 use Rattle.ecart.specs.declared.summary.Summary.{Summary}
 use Rattle.ecart.specs.Choice.{ecart_of}
 use Rattle.mora_form.specs.Reducers.{IsSummaryOf}
-use Rattle.mora_form.specs.State.{ring}
-use Rattle.mora_form.proofs.Vectors.{ring_p, ring_count, ring_degree, lead_of_row}
+use Rattle.mora_law.specs.Ring.{ring}
+use Rattle.mora_form.proofs.Vectors.{lead_of_row}
+use Rattle.mora_law.proofs.Ring.{ring_p, ring_count, ring_degree}
 
 -- a row that begins has a top degree
 pub top_told : (T : Shape) (r : List ℕ) (k : ℕ) (o : Option ℕ) (other t : ℕ) → BeginsAt r k → MatchOption o (IsZeroRow r) (HasTopDegree T r) → t ≡ unwrap_or o other → HasTopDegree T r t

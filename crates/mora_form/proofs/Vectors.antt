@@ -1,75 +1,29 @@
 -- Rows as vectors over the ring by rank: leads, and the subtraction of multiples.
 -- The ring stays folded: what it consists of is told once, field by field, and everything else follows by its laws.
-use Rattle.std.proofs.Common.{◌≡◌, ℕ, ◌+◌, ◌-◌, ◌*◌, ◌%◌, ◌<◌, ◌≤◌, List, [], length, get_or, Option, Some, None, refl, ap, sym, ◌∙◌, subst, arith}
+use Rattle.std.proofs.Common.{◌≡◌, ℕ, ◌+◌, ◌-◌, ◌*◌, ◌<◌, ◌≤◌, List, length, get_or, Option, Some, None, refl, ap, sym, ◌∙◌, subst, arith}
 use Rattle.std.proofs.Math.Nat
 use Rattle.prime_field.specs.Prime.{InTable}
-use Rattle.prime_field.specs.Inverse.{inverse}
-use Rattle.prime_field.proofs.Primality.{IsPrime-table}
 use Rattle.local_order.specs.Mono.{degree, mono_times, mono_quotient}
 use Rattle.local_order.specs.Shape.{Shape, count}
-use Rattle.sparse_poly.specs.Shape.{shape_of}
 use Rattle.local_order.proofs.Order.{mono_times-mono_quotient}
-use Rattle.local_order.proofs.Division.{divides_iff}
 use Rattle.mono_rank.specs.Rank.{HasRank, mono_of_rank}
-use Rattle.mono_rank.specs.Laws.{numbering, rank_quotient, rank_cofactor}
+use Rattle.mono_rank.specs.Laws.{numbering, rank_quotient}
 use Rattle.rank_algebra.specs.Ranks.{Ranks, IsRanks}
 use Rattle.mono_rank.proofs.ByRank.{rank-mono_of_rank}
 use Rattle.mono_rank.proofs.Quotients.{IsOver, over_is}
 use Rattle.mono_rank.proofs.Numbers.{quotient_of_ranks}
-use Rattle.sparse_poly.specs.Ideal.{Problem}
+use Rattle.mono_rank.proofs.Divided.{quotient_fits}
 use Rattle.rank_algebra.specs.Rows.{IsRow, IsZeroRow, BeginsAt, vector_of_row}
 use Rattle.mono_rank.specs.Rows.{SubtractsMultiple}
 use Rattle.trunc_row.proofs.Residues.{row_small}
 use Rattle.rank_algebra.specs.Vector.{Same, nothing, coef_at, shift, less, Agree}
-use Rattle.mora_law.specs.Ring.{numbering_of, ranks_of_problem}
+use Rattle.mora_law.specs.Ring.{ring}
 use Rattle.rank_algebra.specs.Ideal.{IsLead}
 use Rattle.rank_algebra.proofs.Residues.{same_refl, same_of, same_trans, same_add, same_mul, same_mod, same_minus}
 use Rattle.rank_algebra.proofs.Linear.{agree_of}
-use Rattle.mora_law.proofs.Ring.{ranks_are}
+use Rattle.mora_law.proofs.Ring.{ring_p, ring_count, ring_quotient, ring_laws}
 use Rattle.mora_law.specs.Lead.{lead}
 use Rattle.mora_law.proofs.Choice.{lead_some, lead_is}
-use Rattle.mora_form.specs.State.{ring}
-use Rattle.mora_form.proofs.Quotients.{quotient_fits}
-
--- ---- the ring
--- it is that of each problem over the field, in these variables and modulo this degree
-pub ring_of_problem : (P : Problem) → ranks_of_problem P ≡ ring P.p (shape_of P)
-unfolding ranks_of_problem numbering_of
-ring_of_problem P = refl
-
--- its field has p members
-pub ring_p : (p : ℕ) (T : Shape) → (ring p T).p ≡ p
-unfolding ranks_of_problem numbering_of
-ring_p p T = refl
-
--- it has a rank for each monomial of degree at most d
-pub ring_count : (p : ℕ) (T : Shape) → (ring p T).n ≡ count T
-unfolding ranks_of_problem numbering_of
-ring_count p T = refl
-
--- its quotients are those of monomials by rank
-pub ring_quotient : (p : ℕ) (T : Shape) (r a : ℕ) → (ring p T).quotient r a ≡ rank_quotient (numbering T) r a
-unfolding ranks_of_problem numbering_of
-ring_quotient p T r a = refl
-
--- and so are its cofactors
-pub ring_cofactor : (p : ℕ) (T : Shape) (a b : ℕ) → (ring p T).cofactor a b ≡ rank_cofactor (numbering T) a b
-unfolding ranks_of_problem numbering_of
-ring_cofactor p T a b = refl
-
--- its degrees are those of monomials
-pub ring_degree : (p : ℕ) (T : Shape) (r : ℕ) → (ring p T).degree r ≡ degree (mono_of_rank T r)
-unfolding ranks_of_problem numbering_of
-ring_degree p T r = refl
-
--- its inverses are those of residues
-pub ring_inverse : (p : ℕ) (T : Shape) (c : ℕ) → (ring p T).inverse_of c ≡ inverse p (c % p)
-unfolding ranks_of_problem numbering_of
-ring_inverse p T c = refl
-
--- it has the laws of computing by rank
-pub ring_laws : (p : ℕ) (T : Shape) → InTable p → 1 ≤ T.variables → IsRanks (ring p T)
-ring_laws p T t some = ranks_are (record { p = p; n = T.variables; d = T.degree; gens = [] }) (record { prime = IsPrime-table p t; some = some; in_ring = λ k x l. absurd (omega (arith, l)) })
 
 -- ---- residues
 -- numbers below p that are one residue are equal
@@ -156,7 +110,7 @@ module _ (p : ℕ) (T : Shape) (t : InTable p) (some : 1 ≤ T.variables) where
           long = hx.in_ring ∙ sym hm.in_ring
 
           fits : (length (mono_quotient (mono_of_rank T k) (mono_of_rank T a)) ≡ T.variables) × (degree (mono_quotient (mono_of_rank T k) (mono_of_rank T a)) ≤ T.degree)
-          fits = quotient_fits T (mono_of_rank T k) (mono_of_rank T a) k a hm hx ((divides_iff (mono_of_rank T a) (mono_of_rank T k) long).0 over.divisor)
+          fits = quotient_fits T (mono_of_rank T k) (mono_of_rank T a) k hm
 
           hq : HasRank T quotient q
           hq = record { in_ring = fits.0; low = fits.1; rank = over.rank }

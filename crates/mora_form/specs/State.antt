@@ -9,14 +9,14 @@ use Rattle.entry_code.specs.declared.reading.Reading.{Reading}
 use Rattle.entry_code.specs.declared.term.Term.{Term}
 use Rattle.entry_code.specs.Entry.{Entry, entry_at}
 use Rattle.rank_algebra.specs.Vector.{Vector, Agree}
-use Rattle.mora_law.specs.Ring.{ranks_of_problem}
+use Rattle.mora_law.specs.Ring.{ranks_of_problem, ring}
 use Rattle.rank_algebra.specs.Rows.{vector_of_row, BeginsAt}
-use Rattle.trunc_row.specs.Rows.{HasRisingRanks}
 use Rattle.mora_law.specs.declared.step_end.StepEnd.{StepEnd}
 use Rattle.mora_law.specs.declared.step_end.StepEnd.TheVariants.{Zero, Reduced, Stuck}
 use Rattle.mora_law.specs.Step.{Run}
 use Rattle.mora_law.specs.Alike.{RunAlike}
-use Rattle.mora_law.specs.Entries.{vector_of_terms, terms_of, monic, lead_rank}
+use Rattle.mora_law.specs.Entries.{terms_of, monic, lead_rank}
+use Rattle.entry_code.specs.Terms.{vector_of_terms, HasRisingRanks}
 use Rattle.mora_law.specs.Legal.{IsItemOf}
 use Rattle.mora_law.specs.Start.{run}
 use Rattle.mora_form.specs.Reducers.{row_at}
@@ -34,10 +34,6 @@ pub record State : Type 0 where
   pub end : Option StepEnd
   pub poly : List ℕ
   pub kept : List (List ℕ)
-
--- computing by rank
-abbrev pub ring : ℕ → Shape → Ranks
-ring p T = ranks_of_problem (record { p = p; n = T.variables; d = T.degree; gens = [] })
 
 -- the ring of a state
 abbrev pub ring_of : State → Ranks

@@ -11,7 +11,6 @@ ghost use Rattle.mora_law.specs.Start.{start_of};
 ghost use Rattle.mora_form.specs.Reducers.{AreRows, AreSummarized};
 ghost use Rattle.mora_form.specs.Begin.{basis_in};
 
-use crate::products::cofactor_rank;
 use crate::reducers::Reducers;
 use entry_code::Item;
 use mono_rank::RankTable;
@@ -49,14 +48,14 @@ pub(crate) fn begin(
                 table,
                 field,
                 field.neg(1),
-                cofactor_rank(table, first, second),
+                table.cofactor_rank(first, second),
                 known.rows.get(i as usize),
             );
             row.sub_multiple_of(
                 table,
                 field,
                 1,
-                cofactor_rank(table, second, first),
+                table.cofactor_rank(second, first),
                 known.rows.get(j as usize),
             );
         }

@@ -7,7 +7,6 @@ mod chosen;
 mod draft;
 mod entries;
 mod mora;
-mod products;
 mod reducers;
 mod steps;
 

@@ -7,7 +7,8 @@ use Rattle.sparse_poly.proofs.Unique.{in_of_canonical}
 use Rattle.entry_code.specs.Entry.{Entry, entry_at}
 use Rattle.rank_algebra.specs.Vector.{Agree}
 use Rattle.mora_law.specs.Ring.{numbering_of, ranks_of_problem, IsAdmissible, vector_of}
-use Rattle.mora_law.specs.Entries.{vector_of_terms, terms_of, basis_of, poly_of_terms, AreByRank}
+use Rattle.mora_law.specs.Entries.{terms_of, basis_of, poly_of_terms, AreByRank}
+use Rattle.entry_code.specs.Terms.{vector_of_terms}
 use Rattle.mora_law.specs.Legal.{Legal}
 use Rattle.mora_law.proofs.Ring.{ranks_count}
 use Rattle.mora_law.proofs.Terms.{terms_again}

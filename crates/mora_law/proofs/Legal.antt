@@ -15,7 +15,8 @@ use Rattle.mora_law.specs.Lead.{lead}
 use Rattle.mora_law.specs.Step.{Reducer, choose, firsts, Run, reduce, step_at, step}
 use Rattle.mora_law.specs.declared.step_end.StepEnd.TheVariants.{Stuck}
 use Rattle.mora_law.specs.Run.{steps, begin, run_from, last_known, last_corner}
-use Rattle.mora_law.specs.Entries.{vector_of_terms, lead_rank, basis_of}
+use Rattle.mora_law.specs.Entries.{lead_rank, basis_of}
+use Rattle.entry_code.specs.Terms.{vector_of_terms}
 use Rattle.mora_law.specs.Legal.{IsItemOf, AreLegal}
 use Rattle.mora_law.specs.Start.{start_of}
 use Rattle.rank_algebra.proofs.Linear.{agree_of, shift_unit, span_space, span_shift, span_part}

@@ -11,7 +11,8 @@ use Rattle.rank_algebra.specs.Vector.{Same, Vector}
 use Rattle.rank_algebra.specs.Division.{Basis, IsMonic, IsMultiple}
 use Rattle.rank_algebra.specs.Ideal.{IsLeadOfSpan, Generators}
 use Rattle.mora_law.specs.Lead.{lead}
-use Rattle.mora_law.specs.Entries.{vector_of_terms, terms_of, lead_rank, basis_of}
+use Rattle.mora_law.specs.Entries.{terms_of, lead_rank, basis_of}
+use Rattle.entry_code.specs.Terms.{vector_of_terms}
 use Rattle.mora_law.specs.Legal.{AreLegal}
 use Rattle.mora_law.specs.Basis.{tidied, divides_other, is_minimal, minimal_with, plain_basis}
 use Rattle.rank_algebra.proofs.Residues.{same_sym, same_trans}

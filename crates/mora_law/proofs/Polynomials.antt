@@ -14,7 +14,8 @@ use Rattle.entry_code.specs.declared.term.Term.{Term}
 use Rattle.rank_algebra.specs.Vector.{Vector, nothing, Agree}
 use Rattle.mora_law.specs.Ring.{numbering_of, ranks_of_problem, IsAdmissible, vector_of}
 use Rattle.mora_law.specs.Lead.{is_none_at, lead}
-use Rattle.mora_law.specs.Entries.{vector_of_terms, terms_of, lead_rank, poly_of_terms}
+use Rattle.mora_law.specs.Entries.{terms_of, lead_rank, poly_of_terms}
+use Rattle.entry_code.specs.Terms.{vector_of_terms}
 use Rattle.rank_algebra.proofs.Residues.{same_refl, same_of, same_trans}
 use Rattle.rank_algebra.proofs.Linear.{agree_sym, agree_trans}
 use Rattle.mora_law.proofs.Ring.{numbering_is, ranks_count}

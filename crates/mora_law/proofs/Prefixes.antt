@@ -14,7 +14,8 @@ use Rattle.rank_algebra.specs.Ideal.{Generators}
 use Rattle.mora_law.specs.Lead.{lead}
 use Rattle.mora_law.specs.Step.{choose, firsts, Run, reduce, step_at, step}
 use Rattle.mora_law.specs.Run.{steps, run_from, AreOrderly}
-use Rattle.mora_law.specs.Entries.{vector_of_terms, terms_of, monic, lead_rank, basis_of}
+use Rattle.mora_law.specs.Entries.{terms_of, monic, lead_rank, basis_of}
+use Rattle.entry_code.specs.Terms.{vector_of_terms}
 use Rattle.mora_law.specs.Legal.{IsItemOf, HaveCorners, IsLegalEntry, AreLegal}
 use Rattle.mora_law.specs.Start.{start_of, run_of}
 use Rattle.rank_algebra.proofs.Corner.{corner_is, corner_least, Begins, corner_of_same}

@@ -17,7 +17,8 @@ use Rattle.rank_algebra.specs.Division.{IsMultiple}
 use Rattle.mora_law.specs.Ring.{numbering_of, ranks_of_problem, IsAdmissible, vector_of, generators_of}
 use Rattle.rank_algebra.specs.Ideal.{InSpan}
 use Rattle.mora_law.specs.Run.{AreOrderly, last_known, last_corner}
-use Rattle.mora_law.specs.Entries.{vector_of_terms, lead_rank, basis_of, AreMonic, corner, leads, poly_of_terms}
+use Rattle.mora_law.specs.Entries.{lead_rank, basis_of, AreMonic, corner, leads, poly_of_terms}
+use Rattle.entry_code.specs.Terms.{vector_of_terms}
 use Rattle.mora_law.specs.Start.{start, run}
 use Rattle.mora_law.specs.Legal.{Legal}
 use Rattle.mora_law.specs.Tickets.{HasTicket, ticket_of, total}

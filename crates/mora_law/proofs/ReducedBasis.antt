@@ -1,6 +1,6 @@
 -- A reduced basis by rank is the reduced standard basis of the problem's ideal.
 -- Members go one by one; leads by rank and leads as monomials are tied by the numbering.
-use Rattle.std.proofs.Common.{◌≡◌, ℕ, zero, suc, ◌%◌, ◌<◌, ◌≤◌, ◌≢◌, ◌⊎◌, List, [], ◌∷◌, length, map, Contains, refl, sym, ◌∙◌, ap, ap₂, subst, arith, inl, inr}
+use Rattle.std.proofs.Common.{◌≡◌, ℕ, zero, suc, ◌%◌, ◌<◌, ◌≤◌, ◌≢◌, ◌⊎◌, List, [], ◌∷◌, length, map, Contains, refl, sym, ◌∙◌, ap, subst, arith, inl, inr}
 use Rattle.std.specs.List.{AllZip}
 use Rattle.std.proofs.Math.Nat
 use Rattle.std.proofs.lemmas.Bool.{cases_lt}
@@ -8,13 +8,14 @@ use Rattle.local_order.specs.Mono.{degree, Divides}
 use Rattle.local_order.specs.Order.{IsAbove}
 use Rattle.mono_rank.specs.Laws.{Numbering, IsNumbering}
 use Rattle.rank_algebra.specs.Ranks.{Ranks}
-use Rattle.sparse_poly.specs.Poly.{Poly, total, coef, IsCanonical}
-use Rattle.sparse_poly.specs.Ideal.{Problem, IsInIdeal, IsLeadOfIdeal, IsLead, IsFalling, IsMinimalLead, IsReducedMember, IsReducedBasis}
+use Rattle.sparse_poly.specs.Poly.{total, coef, IsCanonical}
+use Rattle.sparse_poly.specs.Ideal.{Problem, IsInIdeal, IsLeadOfIdeal, IsFalling, IsMinimalLead, IsReducedMember, IsReducedBasis}
 use Rattle.entry_code.specs.declared.term.Term.{Term}
 use Rattle.rank_algebra.specs.Vector.{Same}
 use Rattle.mora_law.specs.Ring.{numbering_of, ranks_of_problem, IsAdmissible, vector_of, generators_of}
 use Rattle.rank_algebra.specs.Ideal.{IsLead as IsLeadByRank, IsLeadOfSpan, Generators}
-use Rattle.mora_law.specs.Entries.{vector_of_terms, terms_of, lead_rank, poly_of_terms}
+use Rattle.mora_law.specs.Entries.{terms_of, lead_rank, poly_of_terms}
+use Rattle.entry_code.specs.Terms.{vector_of_terms}
 use Rattle.rank_algebra.proofs.Linear.{span_space}
 use Rattle.mora_law.proofs.Ring.{numbering_is, ranks_are, ranks_p, ranks_count}
 use Rattle.mora_law.proofs.Spans.{ideal_by_rank, lead_by_rank}

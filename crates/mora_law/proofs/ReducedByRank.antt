@@ -6,7 +6,8 @@ use Rattle.entry_code.specs.declared.term.Term.{Term}
 use Rattle.rank_algebra.specs.Vector.{Same}
 use Rattle.rank_algebra.specs.Ideal.{InSpan, IsLeadOfSpan, Generators}
 use Rattle.mora_law.specs.Lead.{lead}
-use Rattle.mora_law.specs.Entries.{vector_of_terms, terms_of, lead_rank}
+use Rattle.mora_law.specs.Entries.{terms_of, lead_rank}
+use Rattle.entry_code.specs.Terms.{vector_of_terms}
 
 -- r is in the list
 abbrev pub Mem : ℕ → List ℕ → Type 0

@@ -1,24 +1,25 @@
 -- The ranks of a problem have the laws of ranks: its numbering numbers the monomials by the order ds, and the inverse is one.
 -- No other proof looks into the numbering of a problem.
-use Rattle.std.proofs.Common.{◌≡◌, ℕ, ◌*◌, ◌%◌, ◌<◌, ◌≤◌, List, refl, sym, ◌∙◌, ap, arith}
+use Rattle.std.proofs.Common.{◌≡◌, ℕ, ◌*◌, ◌%◌, ◌<◌, ◌≤◌, List, [], refl, sym, ◌∙◌, ap, arith}
 use Rattle.std.proofs.Math.Nat.{mod-lt, mod-mod}
 use Rattle.std.proofs.lemmas.Nat.{mul-mod}
-use Rattle.prime_field.specs.Prime.{IsPrime}
+use Rattle.prime_field.specs.Prime.{IsPrime, InTable}
 use Rattle.prime_field.specs.Inverse.{inverse}
 use Rattle.prime_field.proofs.Inverse.{inverse-law}
 use Rattle.prime_field.proofs.Primality.{IsPrime-table}
 use Rattle.local_order.specs.Order.{IsAbove}
 use Rattle.local_order.specs.Mono.{degree, mono_one}
 use Rattle.local_order.specs.Count.{monomial_count}
+use Rattle.local_order.specs.Shape.{Shape, count}
 use Rattle.sparse_poly.specs.Shape.{shape_of}
 use Rattle.mono_rank.specs.Rank.{HasRank, rank_of, mono_of_rank}
-use Rattle.mono_rank.specs.Laws.{IsNumbering, rank_times, rank_quotient, rank_cofactor, ranks_of}
+use Rattle.mono_rank.specs.Laws.{IsNumbering, numbering, rank_times, rank_quotient, rank_cofactor, ranks_of}
 use Rattle.rank_algebra.specs.Ranks.{IsRanks}
 use Rattle.mono_rank.proofs.ByRank.{rank-one}
 use Rattle.mono_rank.proofs.Numbers.{numbering_has_laws, ds_is_degree_order, ranks_are_numbering}
 use Rattle.sparse_poly.specs.Ideal.{Problem, IsProblem}
 use Rattle.sparse_poly.proofs.Unique.{in_of_canonical}
-use Rattle.mora_law.specs.Ring.{numbering_of, ranks_of_problem, IsAdmissible}
+use Rattle.mora_law.specs.Ring.{numbering_of, ranks_of_problem, ring, IsAdmissible}
 
 -- the numbering of a problem numbers the monomials by the order ds
 pub numbering_is : (P : Problem) → 1 ≤ P.n → IsNumbering P.n P.d IsAbove (numbering_of P)
@@ -120,3 +121,48 @@ problem_is_admissible P h = record {
   some = h.some;
   in_ring = λ k l d. in_of_canonical P.p P.n _ (h.canonical k l d);
 }
+
+-- ---- the ring of a field and the monomials
+-- it is that of each problem over the field, in these variables and modulo this degree
+pub ring_of_problem : (P : Problem) → ranks_of_problem P ≡ ring P.p (shape_of P)
+unfolding ranks_of_problem numbering_of
+ring_of_problem P = refl
+
+-- its field has p members
+pub ring_p : (p : ℕ) (T : Shape) → (ring p T).p ≡ p
+unfolding ranks_of_problem numbering_of
+ring_p p T = refl
+
+-- it has a rank for each monomial of degree at most d
+pub ring_count : (p : ℕ) (T : Shape) → (ring p T).n ≡ count T
+unfolding ranks_of_problem numbering_of
+ring_count p T = refl
+
+-- its products are those of monomials by rank
+pub ring_times : (p : ℕ) (T : Shape) (a b : ℕ) → (ring p T).times a b ≡ rank_times T.degree (numbering T) a b
+unfolding ranks_of_problem numbering_of
+ring_times p T a b = refl
+
+-- and so are its quotients
+pub ring_quotient : (p : ℕ) (T : Shape) (r a : ℕ) → (ring p T).quotient r a ≡ rank_quotient (numbering T) r a
+unfolding ranks_of_problem numbering_of
+ring_quotient p T r a = refl
+
+-- and so are its cofactors
+pub ring_cofactor : (p : ℕ) (T : Shape) (a b : ℕ) → (ring p T).cofactor a b ≡ rank_cofactor (numbering T) a b
+unfolding ranks_of_problem numbering_of
+ring_cofactor p T a b = refl
+
+-- its degrees are those of monomials
+pub ring_degree : (p : ℕ) (T : Shape) (r : ℕ) → (ring p T).degree r ≡ degree (mono_of_rank T r)
+unfolding ranks_of_problem numbering_of
+ring_degree p T r = refl
+
+-- its inverses are those of residues
+pub ring_inverse : (p : ℕ) (T : Shape) (c : ℕ) → (ring p T).inverse_of c ≡ inverse p (c % p)
+unfolding ranks_of_problem numbering_of
+ring_inverse p T c = refl
+
+-- it has the laws of computing by rank
+pub ring_laws : (p : ℕ) (T : Shape) → InTable p → 1 ≤ T.variables → IsRanks (ring p T)
+ring_laws p T t some = ranks_are (record { p = p; n = T.variables; d = T.degree; gens = [] }) (record { prime = IsPrime-table p t; some = some; in_ring = λ k x l. absurd (omega (arith, l)) })

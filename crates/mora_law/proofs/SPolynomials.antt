@@ -8,6 +8,7 @@ use Rattle.local_order.proofs.Order.{length-mono_quotient}
 use Rattle.local_order.proofs.Places.{get_or-mono_quotient, get_or-mono_lcm, length-mono_lcm}
 use Rattle.mono_rank.specs.Laws.{Numbering, IsNumbering}
 use Rattle.mono_rank.proofs.Quotients.{mono-cofactor, cofactor_small}
+use Rattle.mono_rank.proofs.Divided.{over_left}
 use Rattle.sparse_poly.specs.Poly.{Poly, IsIn, term_times}
 use Rattle.sparse_poly.specs.Ideal.{Problem}
 use Rattle.sparse_poly.proofs.Coef.{total-append}
@@ -28,14 +29,7 @@ use Rattle.mora_law.proofs.Spans.{term_by_rank}
 use Rattle.mora_law.proofs.SettledByRank.{lead_at}
 use Rattle.mora_law.proofs.EntryPolynomials.{entry_in_ring, entry_vector}
 
--- what a lacks to the least common multiple of a and b is what it lacks to b
-pub over_left : (a b : List ℕ) → length a ≡ length b → mono_quotient (mono_lcm a b) a ≡ mono_quotient b a
-over_left a b e =
-    ext_get_or 0 (mono_quotient (mono_lcm a b) a) (mono_quotient b a)
-    (length-mono_quotient (mono_lcm a b) a ∙ length-mono_lcm a b e ∙ sym (length-mono_quotient b a))
-    (λ k l. omega (arith, get_or-mono_quotient (mono_lcm a b) a k, get_or-mono_lcm a b k, get_or-mono_quotient b a k))
-
--- and so it is with b
+-- what b lacks to the least common multiple of a and b is what it lacks to a
 over_right : (a b : List ℕ) → length a ≡ length b → mono_quotient (mono_lcm a b) b ≡ mono_quotient a b
 over_right a b e =
     ext_get_or 0 (mono_quotient (mono_lcm a b) b) (mono_quotient a b)

@@ -7,7 +7,8 @@ use Rattle.mora_law.specs.declared.skip.Skip.TheVariants.{Product, Chain}
 use Rattle.mora_law.specs.declared.step_end.StepEnd.TheVariants.{Zero, Reduced, Stuck}
 use Rattle.mora_law.specs.Ring.{ranks_of_problem}
 use Rattle.mora_law.specs.Lead.{ecart}
-use Rattle.mora_law.specs.Entries.{vector_of_terms, terms_of, monic}
+use Rattle.mora_law.specs.Entries.{terms_of, monic}
+use Rattle.entry_code.specs.Terms.{vector_of_terms}
 use Rattle.mora_law.specs.Start.{start}
 use Rattle.mora_law.specs.Tickets.{ticket_of, total}
 use Rattle.mora_law.specs.Items.{item_of}

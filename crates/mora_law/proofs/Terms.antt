@@ -10,7 +10,8 @@ use Rattle.rank_algebra.specs.Vector.{Same, Vector, nothing, scale, Agree}
 use Rattle.rank_algebra.specs.Ideal.{IsLead}
 use Rattle.mora_law.specs.Lead.{is_none_at, lead}
 use Rattle.entry_code.specs.declared.term.Term.{Term}
-use Rattle.mora_law.specs.Entries.{vector_of_terms, term_at, terms_of, monic_by, monic, lead_rank}
+use Rattle.mora_law.specs.Entries.{term_at, terms_of, monic_by, monic, lead_rank}
+use Rattle.entry_code.specs.Terms.{vector_of_terms}
 use Rattle.rank_algebra.proofs.Residues.{same_of, same_sym, same_trans, same_times, same_mod}
 use Rattle.rank_algebra.proofs.Linear.{agree_refl, agree_trans, inverse_same}
 use Rattle.mora_law.proofs.Choice.{lead_some, none_same, some_same, lead_is}

@@ -1,20 +1,16 @@
 -- Entries as vectors, and as polynomials.
-use Rattle.std.specs.Prelude.{filter_map, ◌≡◌, ℕ, ◌%◌, ◌<◌, List, [], ◌∷◌, length, map, Option, Some, None, ◌==◌, if◌then◌else◌}
+use Rattle.std.specs.Prelude.{filter_map, ◌≡◌, ℕ, ◌%◌, ◌<◌, List, [], ◌∷◌, length, map, Option, Some, None, if◌then◌else◌}
 use Rattle.std.specs.List.{range_with_len}
 use Rattle.rank_algebra.specs.Ranks.{Ranks}
 use Rattle.sparse_poly.specs.Poly.{Term as PolyTerm, Poly}
 use Rattle.sparse_poly.specs.Ideal.{Problem}
 use Rattle.entry_code.specs.declared.term.Term.{Term}
 use Rattle.entry_code.specs.Entry.{Entry, entry_at}
-use Rattle.rank_algebra.specs.Vector.{Vector, nothing, scale}
+use Rattle.entry_code.specs.Terms.{vector_of_terms}
+use Rattle.rank_algebra.specs.Vector.{Vector, scale}
 use Rattle.rank_algebra.specs.Division.{Basis, IsMonic, corner_of}
 use Rattle.mora_law.specs.Ring.{numbering_of, ranks_of_problem}
 use Rattle.mora_law.specs.Lead.{is_none_at, lead}
-
--- the coefficients of a list of terms
-abbrev pub vector_of_terms : List Term → Vector
-vector_of_terms [] = nothing
-vector_of_terms (t ∷ ts) = λ r. if t.rank == r then t.coef else vector_of_terms ts r
 
 -- the term of rank r, where there is one
 abbrev pub term_at : Ranks → Vector → ℕ → Option Term

@@ -13,7 +13,8 @@ use Rattle.rank_algebra.specs.Ranks.{Ranks}
 use Rattle.mora_law.specs.declared.step_end.StepEnd.{StepEnd}
 use Rattle.mora_law.specs.Ring.{ranks_of_problem}
 use Rattle.mora_law.specs.Step.{Run, choose, step}
-use Rattle.mora_law.specs.Entries.{vector_of_terms, terms_of}
+use Rattle.mora_law.specs.Entries.{terms_of}
+use Rattle.entry_code.specs.Terms.{vector_of_terms}
 use Rattle.mora_law.specs.Basis.{remainder_by}
 
 -- ---- words

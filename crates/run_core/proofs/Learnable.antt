@@ -14,7 +14,8 @@ use Rattle.rank_algebra.specs.Ranks.{Ranks}
 use Rattle.rank_algebra.specs.Vector.{Vector, Same}
 use Rattle.mora_law.specs.Ring.{ranks_of_problem, IsAdmissible}
 use Rattle.mora_law.specs.Lead.{is_none_at}
-use Rattle.mora_law.specs.Entries.{vector_of_terms, lead_rank}
+use Rattle.mora_law.specs.Entries.{lead_rank}
+use Rattle.entry_code.specs.Terms.{vector_of_terms}
 use Rattle.mora_law.specs.Legal.{Legal}
 use Rattle.mora_law.proofs.Terms.{term_by, terms_from, terms_walk}
 use Rattle.mora_law.proofs.Ring.{ranks_p, ranks_count, count_is}

@@ -1,6 +1,6 @@
 -- Whether a monomial is a multiple of a lead can be tested, lead by lead: each lead is the rank of one monomial at most.
 -- So the last rank of a staircase is that before the corner, and there is none where the corner is 0.
-use Rattle.std.proofs.Common.{◌≡◌, ◌≢◌, ℕ, zero, suc, ◌+◌, ◌-◌, ◌<◌, ◌≤◌, ◌↔◌, ◌⊎◌, List, [], ◌∷◌, length, get_or, refl, ap, sym, ◌∙◌, subst, inl, inr, arith}
+use Rattle.std.proofs.Common.{◌≡◌, ◌≢◌, ℕ, ◌+◌, ◌-◌, ◌<◌, ◌≤◌, ◌↔◌, ◌⊎◌, List, [], ◌∷◌, length, get_or, refl, ap, sym, ◌∙◌, subst, inl, inr, arith}
 use Rattle.std.specs.Prelude.{slice_get, Some}
 use Rattle.std.specs.List.{Contains}
 use Rattle.std.proofs.lemmas.Bool.{cases_lt}
@@ -13,17 +13,9 @@ use Rattle.local_order.proofs.Order.{divides_cases}
 use Rattle.mono_rank.specs.Rank.{HasRank}
 use Rattle.mono_rank.specs.Cover.{IsMultipleOfRanks, Covers, IsCorner}
 use Rattle.mono_rank.proofs.Walk.{walk}
+use Rattle.mono_rank.proofs.Members.{first_or_rest, in_rest}
 use Rattle.mono_rank.proofs.Ranks.{rank_low, rank_reached, one_of_rank}
 use Rattle.staircase.specs.Stair.{IsRising, IsStairOf}
-
--- a list has its first item, or one of the rest
-first_or_rest : (x y : ℕ) (xs : List ℕ) → Contains (x ∷ xs) y → (x ≡ y) ⊎ Contains xs y
-first_or_rest x y xs (zero, l, e) = inl e
-first_or_rest x y xs (suc k, l, e) = inr (k, omega arith, e)
-
--- and a member of the rest is one of the whole
-pub in_rest : (x y : ℕ) (xs : List ℕ) → Contains xs y → Contains (x ∷ xs) y
-in_rest x y xs (k, l, e) = (suc k, omega arith, e)
 
 -- whether the lead l divides m
 abbrev IsMultipleOf : Shape → ℕ → List ℕ → Type 0

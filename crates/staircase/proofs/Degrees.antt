@@ -1,6 +1,6 @@
 -- Numbers of monomials grow with the degree, so a rank lies among the ranks of one degree.
 -- The ranks of a staircase that are of a degree are those between two first ranks.
-use Rattle.std.proofs.Common.{◌≡◌, ℕ, zero, suc, ◌<◌, ◌≤◌, ◌↔◌, ◌⊎◌, List, [], ◌∷◌, All, Bool, false, IsTrue, ltb, leb, cond, count_by, ◌&&◌, refl, ap, sym, ◌∙◌, subst, inl, inr, Option, arith}
+use Rattle.std.proofs.Common.{◌≡◌, ℕ, suc, ◌<◌, ◌≤◌, ◌↔◌, ◌⊎◌, List, [], ◌∷◌, All, Bool, false, IsTrue, ltb, leb, cond, count_by, ◌&&◌, refl, ap, sym, ◌∙◌, subst, inl, inr, Option, arith}
 use Rattle.std.specs.Prelude.{Some, None}
 use Rattle.std.specs.Option.{MatchOption}
 use Rattle.std.specs.List.{Contains}
@@ -10,17 +10,11 @@ use Rattle.std.proofs.lemmas.List.Sums.{sum_by-cons}
 use Rattle.local_order.specs.Mono.{degree}
 use Rattle.local_order.specs.Shape.{Shape, count}
 use Rattle.mono_rank.specs.Rank.{HasRank, mono_of_rank, fewer}
-use Rattle.mono_rank.proofs.Pascal.{count_in_degree}
+use Rattle.mono_rank.proofs.Pascal.{fewer_in_degree}
 use Rattle.mono_rank.proofs.ByRank.{mono_of_rank-is, rank-mono_of_rank}
 use Rattle.mono_rank.proofs.Ranks.{rank_from, rank_below}
 use Rattle.mono_rank.proofs.Degrees.{top_rank}
 use Rattle.staircase.specs.Stair.{is_of_degree, IsLeastOfDegree}
-
--- fewer have a lesser degree
-fewer_grows : (n p q : ℕ) → p ≤ q → fewer n p ≤ fewer n q
-fewer_grows n zero q l = omega arith
-fewer_grows n (suc p) zero l = absurd (omega arith)
-fewer_grows n (suc p) (suc q) l = count_in_degree n p q (omega arith)
 
 -- the ranks of a degree are those of its monomials
 pub of_degree_is : (T : Shape) (m : List ℕ) (r e : ℕ) → HasRank T m r → IsTrue (is_of_degree T e r) ↔ (degree m ≡ e)
@@ -49,8 +43,8 @@ degree_between T r e some l = (there, λ t. back t (cases_lt (degree m) e) (case
     there s = subst (λ k. (fewer T.variables k ≤ r) × (r < fewer T.variables (suc k))) s (from, to)
 
     back : (fewer T.variables e ≤ r) × (r < fewer T.variables (suc e)) → (degree m < e) ⊎ (e ≤ degree m) → (e < degree m) ⊎ (degree m ≤ e) → degree m ≡ e
-    back t (inl k) o = absurd (omega (arith, t.0, to, fewer_grows T.variables (suc (degree m)) e (omega arith)))
-    back t (inr k) (inl g) = absurd (omega (arith, t.1, from, fewer_grows T.variables (suc e) (degree m) (omega arith)))
+    back t (inl k) o = absurd (omega (arith, t.0, to, fewer_in_degree T.variables (suc (degree m)) e (omega arith)))
+    back t (inr k) (inl g) = absurd (omega (arith, t.1, from, fewer_in_degree T.variables (suc e) (degree m) (omega arith)))
     back t (inr k) (inr g) = omega arith
 
 -- ---- how many are of a degree
@@ -79,10 +73,10 @@ between_is T r e some l = go (cases_lt (degree m) e) (cases_lt e (degree m))
 
     go : (degree m < e) ⊎ (e ≤ degree m) → (e < degree m) ⊎ (degree m ≤ e) → (leb low r && ltb r high) ≡ is_of_degree T e r
     go (inl k) o =
-        and_left (leb low r) (ltb r high) (lt-leb low r (omega (arith, rank_below T m r some h, fewer_grows T.variables (suc (degree m)) e (omega arith))))
+        and_left (leb low r) (ltb r high) (lt-leb low r (omega (arith, rank_below T m r some h, fewer_in_degree T.variables (suc (degree m)) e (omega arith))))
         ∙ sym (ne_eqb (degree m) e (λ s. absurd (omega (arith, s, k))))
     go (inr k) (inl g) =
-        and_right (leb low r) (ltb r high) (le-ltb r high (omega (arith, rank_from T m r some h, fewer_grows T.variables (suc e) (degree m) (omega arith))))
+        and_right (leb low r) (ltb r high) (le-ltb r high (omega (arith, rank_from T m r some h, fewer_in_degree T.variables (suc e) (degree m) (omega arith))))
         ∙ sym (ne_eqb (degree m) e (λ s. absurd (omega (arith, s, g))))
     go (inr k) (inr g) =
         let same : degree m ≡ e = omega arith in

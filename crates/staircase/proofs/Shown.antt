@@ -13,7 +13,8 @@ use Rattle.mono_rank.proofs.ByRank.{mono_of_rank-is}
 use Rattle.mono_rank.proofs.Ranks.{rank_above, above_of_rank}
 use Rattle.sparse_poly.specs.Ideal.{Problem, IsGreater, IsLeadOfIdeal, IsFalling, IsStaircase, Fits, IsFirstMissing}
 use Rattle.staircase.specs.Stair.{IsRising, IsStairOf, IsLeastOfDegree, ShowLeads}
-use Rattle.staircase.proofs.Decided.{in_rest, multiple_decided}
+use Rattle.staircase.proofs.Decided.{multiple_decided}
+use Rattle.mono_rank.proofs.Members.{in_rest}
 
 -- a rising list without its first number rises
 rising_rest : (r : ℕ) (rs : List ℕ) → IsRising (r ∷ rs) → IsRising rs

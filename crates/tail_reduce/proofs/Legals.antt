@@ -14,7 +14,8 @@ use Rattle.rank_algebra.specs.Vector.{Same, Vector}
 use Rattle.mora_law.specs.Ring.{numbering_of, ranks_of_problem, IsAdmissible, generators_of}
 use Rattle.mora_law.proofs.Ring.{ranks_are, problem_is_admissible}
 use Rattle.mora_law.specs.Lead.{is_none_at}
-use Rattle.mora_law.specs.Entries.{vector_of_terms, terms_of, lead_rank, basis_of, AreMonic}
+use Rattle.mora_law.specs.Entries.{terms_of, lead_rank, basis_of, AreMonic}
+use Rattle.entry_code.specs.Terms.{vector_of_terms}
 use Rattle.mora_law.specs.Legal.{Legal}
 use Rattle.mora_law.proofs.Existence.{few_entries}
 use Rattle.mora_law.proofs.Problems.{monic}

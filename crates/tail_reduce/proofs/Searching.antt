@@ -1,12 +1,13 @@
 -- The places with a minimal lead, as the program and as the definition look for them.
 -- Each search ends at the first that passes; those of all ranks stand one after another.
-use Rattle.std.proofs.Common.{◌≡◌, ℕ, zero, suc, ◌+◌, ◌<◌, ◌≤◌, List, [], ◌∷◌, ◌++◌, length, get_or, map, All, true, false, not, ◌&&◌, eqb, Option, Some, None, is_some, is_none, refl, sym, ◌∙◌, ap, ap₂, subst, arith}
+use Rattle.std.proofs.Common.{◌≡◌, ℕ, zero, suc, ◌+◌, ◌<◌, ◌≤◌, List, [], ◌∷◌, ◌++◌, length, get_or, map, All, true, false, not, ◌&&◌, eqb, Option, Some, None, is_some, is_none, refl, sym, ◌∙◌, ap, ap₂, subst, arith, below_more}
 use Rattle.std.specs.Prelude.{filter_map, option_map}
 use Rattle.std.specs.List.{range_with_len, cons_option}
 use Rattle.std.proofs.lemmas.List.{append-nil}
 use Rattle.std.proofs.lemmas.List.Elements.{All-push, filter_map-append}
 use Rattle.local_order.specs.Shape.{Shape}
 use Rattle.rank_algebra.specs.Ranks.{Ranks}
+use Rattle.sparse_poly.specs.Shape.{shape_of}
 use Rattle.sparse_poly.specs.Ideal.{Problem}
 use Rattle.rank_algebra.specs.Division.{Basis}
 use Rattle.mora_law.specs.Ring.{ranks_of_problem}
@@ -33,6 +34,14 @@ all_others P B table leads place k h l n = sym (ap is_none (none_found (divides_
 pub other_by : (P : Problem) (B : Basis) (table : Shape) (leads : List ℕ) (place k : ℕ) → AreLeadsOf P B table leads → place < length leads → k < length leads →
     divides_other (ranks_of_problem P) B place k ≡ (not (eqb k place) && is_some ((ranks_of_problem P).quotient (get_or leads place 0) (get_or leads k 0)))
 other_by P B table leads place k h l m = ap₂ (λ x y. not (eqb k place) && is_some ((ranks_of_problem P).quotient x y)) (h.lead place l) (h.lead k m)
+
+-- one that is the lead itself, or doesn't divide, is passed
+pub other_more : (table : Shape) (leads : List ℕ) (place k : ℕ) → place < length leads → k < length leads →
+    ((P : Problem) → table ≡ shape_of P → (not (eqb k place) && is_some ((ranks_of_problem P).quotient (get_or leads place 0) (get_or leads k 0))) ≡ false) →
+    NoneOther table leads place k → NoneOther table leads place (k + 1)
+other_more table leads place k l m e n = record {
+  is = λ P B h. below_more (λ j. divides_other (ranks_of_problem P) B place j ≡ false) k (n.is P B h) (other_by P B table leads place k h l m ∙ e P h.table_is);
+}
 
 -- ---- all leads of a rank
 -- no place before the k-th has a minimal lead of this rank

@@ -17,7 +17,7 @@ use Rattle.mora_law.specs.Ring.{ranks_of_problem, IsAdmissible}
 use Rattle.rank_algebra.proofs.Residues.{same_refl, same_of, same_trans, same_add, same_mul, same_mod, same_minus}
 use Rattle.mora_law.proofs.Ring.{ranks_are}
 use Rattle.rank_algebra.proofs.First.{shift_at}
-use Rattle.mora_law.specs.Entries.{vector_of_terms}
+use Rattle.entry_code.specs.Terms.{vector_of_terms}
 use Rattle.tail_reduce.specs.Rows.{HasVector, AreTerms}
 use Rattle.tail_reduce.proofs.Ranked.{ranks_n, product_cases}
 use Rattle.tail_reduce.proofs.Terms.{term_later, term_own, none_before, term_other}
@@ -93,10 +93,10 @@ module _ (P : Problem) (h : IsAdmissible P) where
       within = omega (arith, product, low, ranks_n P)
 
       before : at a ts i place ≡ 0
-      before = ap (at a ts i) (sym product) ∙ shift_at (ranks_of_problem P) L a t.rank (vector_of_terms (take i ts)) within ∙ none_before P.p (count (shape_of P)) 0 ts i t w.falling e
+      before = ap (at a ts i) (sym product) ∙ shift_at (ranks_of_problem P) L a t.rank (vector_of_terms (take i ts)) within ∙ none_before P.p (count (shape_of P)) ts i t w.falling e
 
       after : at a ts (i + 1) place ≡ t.coef
-      after = ap (at a ts (i + 1)) (sym product) ∙ shift_at (ranks_of_problem P) L a t.rank (vector_of_terms (take (i + 1) ts)) within ∙ term_own P.p (count (shape_of P)) 0 ts i t w.falling e
+      after = ap (at a ts (i + 1)) (sym product) ∙ shift_at (ranks_of_problem P) L a t.rank (vector_of_terms (take (i + 1) ts)) within ∙ term_own P.p (count (shape_of P)) ts i t w.falling e
 
       part : Same P.p m ((P.p - 1) * c * t.coef)
       part = same_trans (same_of P.p _ _ ve) (same_trans (same_mod P.p (minus * t.coef))

@@ -2,7 +2,6 @@
 
 ghost use Rattle.std.specs.Prelude.{◌≡◌, ◌<◌, ◌^◌, length, All, IfOk, option_map};
 ghost use Rattle.local_order.specs.Shape.{count};
-ghost use Rattle.sparse_poly.specs.Shape.{shape_of};
 ghost use Rattle.rank_algebra.specs.Ranks.{Ranks, IsRanks};
 ghost use Rattle.sparse_poly.specs.Ideal.{Problem as IdealProblem};
 ghost use Rattle.rank_algebra.specs.Division.{Basis, first_lead, corner_of};
@@ -19,16 +18,6 @@ pub(crate) struct Divisor {
     pub(crate) cofactor: u32,
 }
 
-/// The rank of the quotient of the monomial of one rank by that of another, where it divides.
-pub(crate) fn quotient_rank(table: &RankTable, rank: u32, divisor: u32) -> Option<u32>
-    requires whole { rank < count table.now }
-    requires part { divisor < count table.now }
-    ensures { (P : IdealProblem) → table.now ≡ shape_of P → result ≡ (ranks_of_problem P).quotient rank divisor }
-{
-    let quotient = table.mono(rank).quotient(&table.mono(divisor))?;
-    table.rank(&quotient)
-}
-
 /// The first lead that divides the monomial of a rank, by its place, with the rank of the quotient.
 fn first_divisor(table: &RankTable, leads: &[u32], rank: u32) -> Option<Divisor>
     requires leads { All (λ l. l < count table.now) leads.now }
@@ -38,7 +27,7 @@ fn first_divisor(table: &RankTable, leads: &[u32], rank: u32) -> Option<Divisor>
         → option_map hit_of result ≡ first_lead (ranks_of_problem P) B rank }
 {
     for place in 0..leads.len() {
-        if let Some(cofactor) = quotient_rank(table, rank, leads[place]) {
+        if let Some(cofactor) = table.quotient_rank(rank, leads[place]) {
             return Some(Divisor {
                 place: place as u32,
                 cofactor,

@@ -5,7 +5,7 @@ ghost use Rattle.local_order.specs.Shape.{count};
 ghost use Rattle.sparse_poly.specs.Shape.{shape_of};
 ghost use Rattle.sparse_poly.specs.Poly.{in_variables};
 ghost use Rattle.sparse_poly.specs.Ideal.{IsProblem};
-ghost use Rattle.rank_algebra.specs.Rows.{IsRow, IsZeroRow};
+ghost use Rattle.rank_algebra.specs.Rows.{IsRow};
 ghost use Rattle.rank_algebra.specs.Division.{corner_of};
 ghost use Rattle.mora_law.specs.Ring.{ranks_of_problem};
 ghost use Rattle.mora_law.specs.Entries.{basis_of, terms_of, poly_of_terms};
@@ -14,12 +14,12 @@ ghost use Rattle.tail_reduce.specs.Rows.{HasVector, HaveTerms};
 ghost use Rattle.tail_reduce.specs.Divisors.{AreFirsts};
 
 use crate::divisors::Divisor;
-use crate::rows::{divide, write};
+use crate::rows::divide;
 use entry_code::Entries;
 use mono_rank::RankTable;
 use sparse_poly::{Poly, Problem};
 use std::alloc::{AllocError, Global};
-use trunc_row::poly_of;
+use trunc_row::{poly_of, write_terms};
 
 /// The member that the entry at a place makes: its lead, and what division by all entries leaves of its other terms.
 /// It takes a row of its own, and reads what it shares with other members.
@@ -46,7 +46,7 @@ pub(crate) fn member(
     poly_of(alloc, table, problem.field(), &row)
 }
 
-/// Writes the lead of the entry at a place, and what division leaves of its other terms, into a row of 0.
+/// Writes the lead of the entry at a place, and what division leaves of its other terms, into a row.
 fn tidy(
     problem: &Problem,
     table: &RankTable,
@@ -63,13 +63,12 @@ fn tidy(
     requires corner { corner ≡ corner_of (ranks_of_problem problem.now) (basis_of entries.now) }
     requires place { place < length entries.now }
     requires row { IsRow problem.now.p (count (shape_of problem.now)) row.old }
-    requires zero { IsZeroRow row.old }
     ensures { HasVector problem.now (tidied (ranks_of_problem problem.now) (basis_of entries.now) place) row.new }
 {
     let field = problem.field();
     let terms = &entries.get(place as usize).terms;
     let lead = terms.get(0).rank as usize;
-    write(problem, terms, row);
+    write_terms(row, terms);
     row[lead] = field.sub(row[lead], 1);
     divide(problem, table, entries, firsts, corner, row);
     row[lead] = field.add(row[lead], 1);

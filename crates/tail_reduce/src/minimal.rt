@@ -11,7 +11,6 @@ ghost use Rattle.mora_law.specs.Legal.{Legal};
 ghost use Rattle.mora_law.specs.Basis.{is_minimal, minimal_with};
 ghost use Rattle.tail_reduce.specs.Divisors.{leads_of, AreLeadsOf, minimal_places};
 
-use crate::divisors::quotient_rank;
 use entry_code::Entries;
 use mono_rank::RankTable;
 use sparse_poly::Problem;
@@ -53,7 +52,7 @@ fn is_minimal(table: &RankTable, leads: &[u32], place: usize) -> bool
         → result ≡ is_minimal (ranks_of_problem P) B place }
 {
     for other in 0..leads.len() {
-        if other != place && quotient_rank(table, leads[place], leads[other]).is_some() {
+        if other != place && table.quotient_rank(leads[place], leads[other]).is_some() {
             return false;
         }
     }

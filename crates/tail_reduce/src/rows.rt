@@ -4,11 +4,12 @@ ghost use Rattle.std.specs.Prelude.{◌≡◌, ℕ, ◌<◌, ◌≤◌, length, 
 ghost use Rattle.local_order.specs.Shape.{count};
 ghost use Rattle.sparse_poly.specs.Shape.{shape_of};
 ghost use Rattle.sparse_poly.specs.Ideal.{IsProblem};
-ghost use Rattle.rank_algebra.specs.Rows.{IsRow, IsZeroRow, IsCutAt};
+ghost use Rattle.rank_algebra.specs.Rows.{IsRow, IsCutAt};
 ghost use Rattle.rank_algebra.specs.Vector.{Vector, shift, less};
 ghost use Rattle.rank_algebra.specs.Division.{remainder};
 ghost use Rattle.mora_law.specs.Ring.{ranks_of_problem};
-ghost use Rattle.mora_law.specs.Entries.{vector_of_terms, basis_of};
+ghost use Rattle.mora_law.specs.Entries.{basis_of};
+ghost use Rattle.entry_code.specs.Terms.{vector_of_terms};
 ghost use Rattle.tail_reduce.specs.Rows.{HasVector, AreTerms, HaveTerms};
 ghost use Rattle.tail_reduce.specs.Divisors.{AreFirsts};
 
@@ -16,19 +17,6 @@ use crate::divisors::Divisor;
 use entry_code::{Entries, Terms};
 use mono_rank::RankTable;
 use sparse_poly::Problem;
-
-/// Writes the terms of an entry into a row of 0.
-pub(crate) fn write(problem: &Problem, terms: &Terms, row: &mut [u32])
-    requires row { IsRow problem.now.p (count (shape_of problem.now)) row.old }
-    requires zero { IsZeroRow row.old }
-    requires terms { AreTerms problem.now terms.now.list }
-    ensures { HasVector problem.now (vector_of_terms terms.now.list) row.new }
-{
-    for k in 0..terms.len() {
-        let term = terms.get(k);
-        row[term.rank as usize] = term.coef;
-    }
-}
 
 /// Subtracts `c` times the multiple of an entry by the monomial of rank `cofactor`. It costs a product of
 /// ranks for each term up to the first whose product is beyond the degree.

@@ -5,7 +5,8 @@ ghost use Rattle.local_order.specs.Shape.{count};
 ghost use Rattle.sparse_poly.specs.Poly.{HasResidues, coef};
 ghost use Rattle.rank_algebra.specs.Rows.{IsRow, IsScaled, Subtracts};
 ghost use Rattle.mono_rank.specs.Rows.{SubtractsMultiple, IsRowOf};
-ghost use Rattle.trunc_row.specs.Rows.{SubtractsRun, HasRisingRanks, IsRowOfTerms};
+ghost use Rattle.trunc_row.specs.Rows.{SubtractsRun, IsRowOfTerms};
+ghost use Rattle.entry_code.specs.Terms.{HasRisingRanks};
 
 use entry_code::Terms;
 use mono_rank::RankTable;
@@ -26,8 +27,8 @@ pub(crate) fn write(row: &mut [u32], table: &RankTable, poly: &Poly)
     }
 }
 
-/// Writes the coefficients of the terms at their ranks, and 0 elsewhere.
-pub(crate) fn write_terms(row: &mut [u32], terms: &Terms)
+/// Writes the coefficients of the terms at their ranks, and 0 elsewhere, into a row that is lent as its residues.
+pub fn write_terms(row: &mut [u32], terms: &Terms)
     requires { HasRisingRanks (length row.old) terms.now.list }
     ensures { IsRowOfTerms (length row.old) terms.now.list row.new }
 {

@@ -65,7 +65,7 @@ returns-in-Pair-clause-start c =
     subst (λ x. Agree (ranks_of_problem P) (count c.args.table.now) (vector_of_row c.sub_multiple_of-in-Pair.new.self) (start_of (ranks_of_problem P) (generators_of P) (basis_in rows summaries) x)) (sym c.in-Pair.is)
     (pair_is P p c.args.table.now same c.requires.shape rows summaries c.in-Pair.i c.in-Pair.j c.cofactor_rank.result c.cofactor_rank-in-Pair.result c.get-in-Pair.result.now c.get-in-Pair-2.result.now
     c.sub_multiple_of-in-Pair.new.self i.1 j.1
-    (ap₂ (λ x y. rank_cofactor (numbering c.args.table.now) x.lead y.lead) (sym first) (sym second) ∙ c.cofactor_rank.ensures.value)
-    (ap₂ (λ x y. rank_cofactor (numbering c.args.table.now) x.lead y.lead) (sym second) (sym first) ∙ c.cofactor_rank-in-Pair.ensures.value)
+    (ap₂ (λ x y. rank_cofactor (numbering c.args.table.now) x.lead y.lead) (sym first) (sym second) ∙ sym c.cofactor_rank.ensures.value)
+    (ap₂ (λ x y. rank_cofactor (numbering c.args.table.now) x.lead y.lead) (sym second) (sym first) ∙ sym c.cofactor_rank-in-Pair.ensures.value)
     (pair_row p c.args.table.now table some c.neg.result c.cofactor_rank.result c.cofactor_rank-in-Pair.result c.get-in-Pair.result.now c.get-in-Pair-2.result.now c.clear.new.self c.sub_multiple_of.new.self
     c.sub_multiple_of-in-Pair.new.self c.neg.ensures.value c.cofactor_rank.ensures.low c.cofactor_rank-in-Pair.ensures.low none c.sub_multiple_of.ensures c.sub_multiple_of-in-Pair.ensures))

@@ -6,26 +6,34 @@ use Rattle.rank_algebra.specs.Division.{remainder, corner_of}
 use Rattle.mora_law.specs.Ring.{ranks_of_problem}
 use Rattle.mora_law.proofs.Ring.{ranks_are, problem_is_admissible}
 use Rattle.rank_algebra.proofs.Corner.{corner_is}
-use Rattle.mora_law.specs.Entries.{vector_of_terms, lead_rank, basis_of}
+use Rattle.mora_law.specs.Entries.{lead_rank, basis_of}
+use Rattle.entry_code.specs.Terms.{vector_of_terms, HasRisingRanks}
+use Rattle.local_order.specs.Shape.{count}
+use Rattle.sparse_poly.specs.Shape.{shape_of}
+use Rattle.trunc_row.specs.Rows.{IsRowOfTerms}
+use Rattle.trunc_row.proofs.Residues.{row_small, row_set}
 use Rattle.tail_reduce.specs.Rows.{HasVector}
 use Rattle.tail_reduce.proofs.Ranked.{ranks_n}
-use Rattle.tail_reduce.proofs.Terms.{terms_at, lead_small, lead_read}
+use Rattle.tail_reduce.proofs.Terms.{rising, written_is, terms_at, lead_small, lead_read}
 use Rattle.tail_reduce.proofs.Leads.{taken_out, put_in}
 use Rattle.tail_reduce.proofs.members.tidy.Goals as goal
 
 pub get-lead-requires : goal.get-lead-requires
 get-lead-requires c = (terms_at c.args.problem.now c.args.entries.now c.args.place c.get.result.now c.requires.entries c.requires.place c.get.ensures).some
 
-pub write-requires-clause-terms : goal.write-requires-clause-terms
-write-requires-clause-terms c = terms_at c.args.problem.now c.args.entries.now c.args.place c.get.result.now c.requires.entries c.requires.place c.get.ensures
+pub write_terms-requires : goal.write_terms-requires
+write_terms-requires c =
+    let P = c.args.problem.now in
+    let t = terms_at P c.args.entries.now c.args.place c.get.result.now c.requires.entries c.requires.place c.get.ensures in
+    subst (λ n. HasRisingRanks n c.get.result.now.terms.list) (sym c.requires.row.full) (rising P.p (count (shape_of P)) c.get.result.now.terms.list t.falling)
 
 pub bounds-row-lead : goal.bounds-row-lead
 bounds-row-lead c =
-    omega (arith, lead_small c.args.problem.now c.args.entries.now c.args.place c.get.result.now c.get-lead.result c.requires.entries c.requires.place c.get.ensures c.get-lead.ensures, c.write.ensures.row.full)
+    omega (arith, lead_small c.args.problem.now c.args.entries.now c.args.place c.get.result.now c.get-lead.result c.requires.entries c.requires.place c.get.ensures c.get-lead.ensures, c.write_terms.ensures.full, c.requires.row.full)
 
 pub bounds-row-lead-2 : goal.bounds-row-lead-2
 bounds-row-lead-2 c =
-    omega (arith, lead_small c.args.problem.now c.args.entries.now c.args.place c.get.result.now c.get-lead.result c.requires.entries c.requires.place c.get.ensures c.get-lead.ensures, c.write.ensures.row.full)
+    omega (arith, lead_small c.args.problem.now c.args.entries.now c.args.place c.get.result.now c.get-lead.result c.requires.entries c.requires.place c.get.ensures c.get-lead.ensures, c.write_terms.ensures.full, c.requires.row.full)
 
 pub bounds-row-lead-3 : goal.bounds-row-lead-3
 bounds-row-lead-3 c =
@@ -34,6 +42,27 @@ bounds-row-lead-3 c =
 pub bounds-row-lead-4 : goal.bounds-row-lead-4
 bounds-row-lead-4 c =
     omega (arith, lead_small c.args.problem.now c.args.entries.now c.args.place c.get.result.now c.get-lead.result c.requires.entries c.requires.place c.get.ensures c.get-lead.ensures, c.divide.ensures.row.full)
+
+pub sub-requires-clause-a_residue : goal.sub-requires-clause-a_residue
+sub-requires-clause-a_residue c =
+    let P = c.args.problem.now in
+    let ts = c.get.result.now.terms.list in
+    let low = lead_small P c.args.entries.now c.args.place c.get.result.now c.get-lead.result c.requires.entries c.requires.place c.get.ensures c.get-lead.ensures in
+    let written : HasVector P (vector_of_terms ts) c.write_terms.new.row =
+    written_is P ts c.write_terms.new.row (problem_is_admissible P c.requires.problem)
+    (terms_at P c.args.entries.now c.args.place c.get.result.now c.requires.entries c.requires.place c.get.ensures)
+    (subst (λ n. IsRowOfTerms n ts c.write_terms.new.row) c.requires.row.full c.write_terms.ensures) in
+    omega (arith, row_small P.p (count (shape_of P)) c.write_terms.new.row c.get-lead.result.rank written.row low, c.field-field.ensures.value)
+
+pub divide-requires-clause-row : goal.divide-requires-clause-row
+divide-requires-clause-row c =
+    let P = c.args.problem.now in
+    let ts = c.get.result.now.terms.list in
+    let written : HasVector P (vector_of_terms ts) c.write_terms.new.row =
+    written_is P ts c.write_terms.new.row (problem_is_admissible P c.requires.problem)
+    (terms_at P c.args.entries.now c.args.place c.get.result.now c.requires.entries c.requires.place c.get.ensures)
+    (subst (λ n. IsRowOfTerms n ts c.write_terms.new.row) c.requires.row.full c.write_terms.ensures) in
+    row_set P.p (count (shape_of P)) c.write_terms.new.row c.get-lead.result.rank c.sub.result written.row (omega (arith, c.sub.ensures.residue, c.field-field.ensures.value))
 
 pub divide-requires-clause-corner : goal.divide-requires-clause-corner
 divide-requires-clause-corner c =
@@ -51,8 +80,12 @@ returns c =
     let at : entry_at c.args.entries.now c.args.place ≡ entry_of c.get.result.now = get_or_from_slice_get c.args.entries.now c.args.place (entry_of c.get.result.now) no_entry c.get.ensures in
     let small = lead_small P c.args.entries.now c.args.place c.get.result.now c.get-lead.result c.requires.entries c.requires.place c.get.ensures c.get-lead.ensures in
     let lead : B.lead c.args.place ≡ l = ap (λ (e : Entry). lead_rank e.terms) at ∙ lead_read ts c.get-lead.result c.get-lead.ensures in
-    let out : HasVector P (less R 1 (monomial l) (vector_of_terms ts)) (set c.write.new.row l c.sub.result) =
-    taken_out P (vector_of_terms ts) c.write.new.row l c.sub.result small (c.sub.ensures.value ∙ ap (λ q. (get_or c.write.new.row l 0 + (q - 1)) % q) p) (omega (arith, c.sub.ensures.residue, p)) c.write.ensures in
+    let written : HasVector P (vector_of_terms ts) c.write_terms.new.row =
+    written_is P ts c.write_terms.new.row (problem_is_admissible P c.requires.problem)
+    (terms_at P c.args.entries.now c.args.place c.get.result.now c.requires.entries c.requires.place c.get.ensures)
+    (subst (λ n. IsRowOfTerms n ts c.write_terms.new.row) c.requires.row.full c.write_terms.ensures) in
+    let out : HasVector P (less R 1 (monomial l) (vector_of_terms ts)) (set c.write_terms.new.row l c.sub.result) =
+    taken_out P (vector_of_terms ts) c.write_terms.new.row l c.sub.result small (c.sub.ensures.value ∙ ap (λ q. (get_or c.write_terms.new.row l 0 + (q - 1)) % q) p) (omega (arith, c.sub.ensures.residue, p)) written in
     let divided = c.divide.ensures.value (less R 1 (monomial l) (vector_of_terms ts)) out in
     let back : HasVector P (add (monomial l) (remainder R B c.args.corner (less R 1 (monomial l) (vector_of_terms ts)))) (set c.divide.new.row l c.add.result) =
     put_in P (remainder R B c.args.corner (less R 1 (monomial l) (vector_of_terms ts))) c.divide.new.row l c.add.result small

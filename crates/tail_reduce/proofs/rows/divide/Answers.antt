@@ -7,7 +7,8 @@ use Rattle.rank_algebra.specs.Vector.{Vector, shift, less}
 use Rattle.rank_algebra.specs.Division.{first_lead}
 use Rattle.mora_law.specs.Ring.{ranks_of_problem}
 use Rattle.mora_law.proofs.Ring.{problem_is_admissible}
-use Rattle.mora_law.specs.Entries.{vector_of_terms, basis_of}
+use Rattle.mora_law.specs.Entries.{basis_of}
+use Rattle.entry_code.specs.Terms.{vector_of_terms}
 use Rattle.tail_reduce.specs.Rows.{HasVector}
 use Rattle.tail_reduce.specs.Divisors.{hit_of}
 use Rattle.tail_reduce.proofs.Firsts.{stored_known}
