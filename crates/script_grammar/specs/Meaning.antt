@@ -1,12 +1,12 @@
 -- What a script asks for. Expressions are worked out in the ring of polynomials cut beyond degree D + 1, D being the noether
 -- degree, so that derivatives are right up to degree D; generators of ideals are cut beyond D.
 use Rattle.std.specs.Prelude.{ℕ, ◌+◌, ◌-◌, ◌*◌, ◌%◌, List, [], ◌∷◌, ◌++◌, length, map, ◌==◌, if◌then◌else◌}
-use Rattle.std.specs.List.{range_with_len}
 use Rattle.prime_field.specs.Decimal.{value_of}
 use Rattle.prime_field.specs.Inverse.{inverse}
 use Rattle.local_order.specs.Mono.{mono_one}
-use Rattle.sparse_poly.specs.Poly.{Poly, in_variables, cut, term_times, times as poly_times, power, derivative}
+use Rattle.sparse_poly.specs.Poly.{Poly, in_variables, cut, term_times, times as poly_times, power}
 use Rattle.sparse_poly.specs.Canonical.{canonical}
+use Rattle.sparse_poly.specs.Jacobian.{jacobian_ideal}
 use Rattle.script_grammar.specs.declared.script.Subject.{Subject}
 use Rattle.script_grammar.specs.declared.script.Subject.TheVariants.{Ideal, Function}
 use Rattle.script_grammar.specs.declared.script.Command.{Command}
@@ -88,9 +88,9 @@ unfoldable mutual
   sum_value v (minus x y) = canonical v.p (sum_value v x ++ opposite v.p (term_value v y))
 
 -- ---- ideals
--- the derivatives of f, in the order of the variables
+-- the derivatives of f in the order of the variables: the generators of its jacobian ideal
 abbrev pub derivatives : Values → Poly → List Poly
-derivatives v f = map (λ i. cut v.d (canonical v.p (derivative i f))) (range_with_len 0 (variable_count v))
+derivatives v f = jacobian_ideal v.p (variable_count v) v.d f
 
 -- the generators that a member stands for: an expression, or the derivatives of a polynomial
 abbrev pub member_value : Values → Member → List Poly

@@ -22,4 +22,5 @@ pub mod Leads
 pub mod Induction
 pub mod Terms
 pub mod Descent
+pub mod Jacobian
 pub mod Examples

@@ -1,5 +1,5 @@
 -- The letters of variables.
-use Rattle.std.specs.Prelude.{◌≡◌, ◌≢◌, ℕ, ◌-◌, ◌<◌, ◌≤◌, List, ◌++◌, length, take, replicate, All, AllPairs}
+use Rattle.std.specs.Prelude.{◌≡◌, ◌≢◌, ℕ, ◌-◌, ◌≤◌, List, ◌++◌, length, take, replicate, All, AllPairs}
 use Rattle.local_order.specs.Limits.{max_variables}
 use Rattle.std.specs.Char.{IsAsciiAlphabetic}
 use Rattle.std.proofs.Common.{get_or, arith}

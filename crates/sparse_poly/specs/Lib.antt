@@ -5,3 +5,4 @@ pub mod Span
 pub mod Letters
 pub mod Shape
 pub mod Degree
+pub mod Jacobian

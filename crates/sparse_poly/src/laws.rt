@@ -6,6 +6,7 @@ ghost use Rattle.local_order.specs.Mono.{degree, mono_times, Divides};
 ghost use Rattle.sparse_poly.specs.Poly.{Term, Poly, coef, cut, derivative, one, power, term_times, times, HasDegreeAtMost, HasResidues, IsCanonical, IsIn, IsSame, IsSorted};
 ghost use Rattle.sparse_poly.specs.Canonical.{canonical};
 ghost use Rattle.sparse_poly.specs.Ideal.{Problem, IsLead, IsInIdeal, HasCanonicalCofactors};
+ghost use Rattle.sparse_poly.specs.Jacobian.{jacobian_ideal};
 ghost use Rattle.sparse_poly.specs.Span.{Span, AreMultiples};
 
 /// The coefficients of a sum are the sums of the coefficients.
@@ -35,6 +36,12 @@ pub fn coefficients_of_derivatives()
     ensures { (p n i : ℕ) (f : Poly) (k : List ℕ) → IsIn n f → length k ≡ n → i < n
         → let exponent = slice_index k i + 1 in
         coef p (derivative i f) k ≡ (exponent * coef p f (slice_set k i exponent)) % p }
+{}
+
+/// The jacobian ideal of a function modulo degree d + 1 sees the function up to degree d + 1 alone.
+pub fn jacobian_ideals_see_low_terms()
+    ensures { (p n d : ℕ) (f g : Poly) → 0 < p → IsIn n f → IsIn n g → IsSame p n (cut (d + 1) f) (cut (d + 1) g)
+        → jacobian_ideal p n d f ≡ jacobian_ideal p n d g }
 {}
 
 /// Polynomials are a commutative ring: products are commutative, associative and distributive, 1 is neutral,
