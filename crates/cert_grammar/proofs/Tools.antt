@@ -1,10 +1,7 @@
 -- What a step of reading that succeeded, or was refused, says of its parts.
-use Rattle.std.proofs.Common.{◌≡◌, ℕ, Bool, true, false, List, [], ◌∷◌, Option, Some, None, Result, Ok, Err, refl, ◌∙◌, ap, ◌⊎◌, inl, inr}
+use Rattle.std.proofs.Common.{◌≡◌, Bool, true, false, List, Option, Some, None, Result, Ok, Err, refl, ap, ◌⊎◌, inl, inr}
 use Rattle.std.specs.Prelude.{option_and_then, ◌&&◌, if◌then◌else◌}
 use Rattle.std.specs.Option.{option_map}
-use Rattle.std.specs.Prelude.{eqb}
-use Rattle.std.proofs.Common.{arith}
-use Rattle.script_grammar.specs.Words.{is_same}
 use Rattle.cert_grammar.specs.Lines.{Line}
 use Rattle.cert_grammar.specs.Reading.{◌>>=◌}
 

@@ -7,3 +7,4 @@ pub mod Cert
 pub mod Phrases
 pub mod Reading
 pub mod Form
+pub mod Certified

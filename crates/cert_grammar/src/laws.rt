@@ -4,6 +4,7 @@
 ghost use Rattle.std.specs.Prelude.{◌≡◌, ◌≢◌, ℕ, ◌+◌, List, [], ◌++◌, length};
 ghost use Rattle.cert_grammar.specs.Blocks.{Block as CertBlock};
 ghost use Rattle.cert_grammar.specs.Cert.{IsCert, cert_text};
+ghost use Rattle.cert_grammar.specs.Certified.{Certified, IsCertificate, certificate_text};
 ghost use Rattle.cert_grammar.specs.Form.{IsFormLine, IsCertText, line_count};
 
 /// A certificate has one text, and a text is that of one certificate.
@@ -24,4 +25,12 @@ pub fn no_prefix()
 /// With bytes behind it a certificate goes wrong behind its last line.
 pub fn no_tail()
     ensures { (bytes behind : List ℕ) → IsCertText bytes → behind ≢ [] → IsFormLine (bytes ++ behind) (line_count bytes + 1) }
+{}
+
+/// The certificates of the grammar are those of problems that are certified: each such certificate has a text, each text
+/// is that of one, and of one alone.
+pub fn certified_problems()
+    ensures text { (c : List Certified) → IsCertificate c → IsCertText (certificate_text c) }
+    ensures all { (bytes : List ℕ) → IsCertText bytes → (c : List Certified) × IsCertificate c × (bytes ≡ certificate_text c) }
+    ensures one { (a b : List Certified) → IsCertificate a → IsCertificate b → certificate_text a ≡ certificate_text b → a ≡ b }
 {}
