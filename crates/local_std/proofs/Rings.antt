@@ -2,23 +2,25 @@
 use Rattle.std.proofs.Common.{◌≡◌, ℕ, zero, suc, ◌<◌, List, [], ◌∷◌, length, map, refl, arith, get_or}
 use Rattle.std.specs.Prelude.{All}
 use Rattle.std.specs.List.{AllZip}
-use Rattle.sparse_poly.specs.Poly.{Poly, Polynomial, IsCanonical}
+use Rattle.sparse_poly.specs.Poly.{Poly, Polynomial, HasResidues}
 use Rattle.sparse_poly.specs.Ideal.{Problem, IsReducedMember, IsReducedBasis, IsStaircase}
+use Rattle.sparse_poly.proofs.Sorted.{residues_of}
+use Rattle.text_out.specs.Answers.{IsModulo}
 
 -- the polynomials' lists of terms
 abbrev pub terms_of : List Polynomial → List Poly
 terms_of fs = map (λ f. f.terms) fs
 
--- polynomials that are members of the reduced basis, each with a lead, are canonical
-members_canonical : (P : Problem) (fs : List Polynomial) (leads : List (List ℕ)) → AllZip (IsReducedMember P) (terms_of fs) leads → All (λ (f : Polynomial). IsCanonical P.p P.n f.terms) fs
-members_canonical P [] leads r k d l = absurd (omega arith)
-members_canonical P (f ∷ fs) [] r k d l = absurd r
-members_canonical P (f ∷ fs) (m ∷ leads) r zero d l = let x : IsReducedMember P f.terms m = r.0 in x.form
-members_canonical P (f ∷ fs) (m ∷ leads) r (suc k) d l = members_canonical P fs leads r.1 k d (omega arith)
+-- polynomials that are members of the reduced basis, each with a lead, have residues
+members_residues : (P : Problem) (fs : List Polynomial) (leads : List (List ℕ)) → AllZip (IsReducedMember P) (terms_of fs) leads → All (λ (f : Polynomial). HasResidues P.p f.terms) fs
+members_residues P [] leads r k d l = absurd (omega arith)
+members_residues P (f ∷ fs) [] r k d l = absurd r
+members_residues P (f ∷ fs) (m ∷ leads) r zero d l = let x : IsReducedMember P f.terms m = r.0 in residues_of P.p P.n f.terms x.form
+members_residues P (f ∷ fs) (m ∷ leads) r (suc k) d l = members_residues P fs leads r.1 k d (omega arith)
 
--- the members of a reduced basis are canonical polynomials in the ring
-pub basis_canonical : (P : Problem) (fs : List Polynomial) → IsReducedBasis P (terms_of fs) → All (λ (f : Polynomial). IsCanonical P.p P.n f.terms) fs
-basis_canonical P fs r = members_canonical P fs r.leads r.members
+-- the members of a reduced basis in these variables are polynomials in the ring
+pub basis_in_ring : (P : Problem) (fs : List Polynomial) → IsReducedBasis P (terms_of fs) → All (λ (f : Polynomial). f.n ≡ P.n) fs → All (IsModulo P.p P.n) fs
+basis_in_ring P fs r n = λ k d l. (n k d l, members_residues P fs r.leads r.members k d l)
 
 -- the monomials of a staircase are in the ring
 pub staircase_in_ring : (P : Problem) (s : List (List ℕ)) → IsStaircase P s → All (λ m. length m ≡ P.n) s

@@ -15,7 +15,10 @@ fn two_readings(alloc: Global) -> Result<Reads, AllocError>
         known: 0,
         corner: 15,
     })?;
-    reads.push(Reading { known: 2, corner: 5 })?;
+    reads.push(Reading {
+        known: 2,
+        corner: 5,
+    })?;
     Ok(reads)
 }
 

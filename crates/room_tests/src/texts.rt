@@ -2,8 +2,8 @@
 
 ghost use Rattle.std.specs.Prelude.{◌≡◌, [], false, length, All, IfOk};
 ghost use Rattle.std.specs.Str.{IsAscii};
-ghost use Rattle.sparse_poly.specs.Poly.{IsCanonical};
 ghost use Rattle.script_grammar.specs.Statements.{is_on_poly};
+ghost use Rattle.text_out.specs.Answers.{IsModulo};
 ghost use Rattle.text_out.specs.Block.{IsIdeal, characteristic_of};
 
 use crate::build::{Exponents, Written, field, mono, poly};
@@ -23,7 +23,7 @@ fn letters() -> Result<Letters, Fail>
 
 /// The polynomials that have one term each, with coefficient 1.
 fn basis(alloc: Global, field: &Field, leads: &[Exponents]) -> Result<Polys, Fail>
-    ensures { IfOk result (λ fs. All (λ f. IsCanonical field.now 2 f.terms) fs) }
+    ensures { IfOk result (λ fs. All (IsModulo field.now 2) fs) }
 {
     let mut all = Polys::new(alloc);
     for lead in leads {

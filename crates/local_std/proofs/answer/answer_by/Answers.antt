@@ -2,7 +2,7 @@ use Rattle.std.proofs.Common.{◌≡◌, map, ◌∙◌, ap, subst}
 use Rattle.mono_rank.specs.Rank.{mono_of_rank}
 use Rattle.sparse_poly.specs.Ideal.{IsProblem}
 use Rattle.staircase.specs.Stair.{IsStairOf}
-use Rattle.local_std.proofs.Rings.{basis_canonical, staircase_in_ring}
+use Rattle.local_std.proofs.Rings.{basis_in_ring, staircase_in_ring}
 use Rattle.local_std.proofs.Settled.{Showing, missing, fits, staircase}
 use Rattle.local_std.proofs.answer.answer_by.Goals as goal
 
@@ -41,4 +41,4 @@ returns-clause-value c =
 pub returns-clause-ring : goal.returns-clause-ring
 returns-clause-ring c =
     let answer = returns-clause-value c in
-    (basis_canonical c.args.problem.now c.in_ok-reduced-in-None.field-0 answer.1, staircase_in_ring c.args.problem.now c.from_vec.result answer.2)
+    (basis_in_ring c.args.problem.now c.in_ok-reduced-in-None.field-0 answer.1 c.in_ok-reduced-in-None.ensures.variables, staircase_in_ring c.args.problem.now c.from_vec.result answer.2)
