@@ -74,8 +74,26 @@ fn entries(alloc: Global) -> Result<Entries, AllocError>
 {
     // x*y^2 and x^2*y have the ranks 8 and 7.
     let mut entries = Entries::new(alloc);
-    entries.push(binomial(alloc, Item::Generator(0), 0, 8, Term { rank: 10, coef: 16004 })?)?;
-    entries.push(binomial(alloc, Item::Generator(1), 1, 7, Term { rank: 14, coef: 16004 })?)?;
+    entries.push(binomial(
+        alloc,
+        Item::Generator(0),
+        0,
+        8,
+        Term {
+            rank: 10,
+            coef: 16004,
+        },
+    )?)?;
+    entries.push(binomial(
+        alloc,
+        Item::Generator(1),
+        1,
+        7,
+        Term {
+            rank: 14,
+            coef: 16004,
+        },
+    )?)?;
     let last = Term {
         rank: 20,
         coef: 32002,
@@ -86,8 +104,7 @@ fn entries(alloc: Global) -> Result<Entries, AllocError>
 }
 
 /// The reduced basis.
-fn basis(alloc: Global) -> Result<Polys, Fail>
-{
+fn basis(alloc: Global) -> Result<Polys, Fail> {
     let problem = problem(alloc)?;
     let table = RankTable::new(alloc, 2, 6)?;
     let entries = entries(alloc)?;
