@@ -83,6 +83,7 @@ decided_lt a b = go (cases_lt a b)
     go (inl l) = inl l
     go (inr l) = inr (λ m. omega (arith, l, m))
 
+-- Whether a number is at most another is decided,
 pub decided_le : (a b : ℕ) → Decided (a ≤ b)
 decided_le a b = go (cases_lt b a)
   where
@@ -90,6 +91,7 @@ decided_le a b = go (cases_lt b a)
     go (inl l) = inr (λ m. omega (arith, l, m))
     go (inr l) = inl l
 
+-- and so is whether two numbers are the same.
 pub decided_nat : (a b : ℕ) → Decided (a ≡ b)
 decided_nat a b = cases_eq a b
 

@@ -85,6 +85,7 @@ some_poly : (P : Problem) (ts : List Term) → 1 ≤ length ts → poly_by_rank 
 some_poly P [] s = absurd (omega arith)
 some_poly P (t ∷ ts) s = λ e. absurd (cc)
 
+-- A polynomial that isn't 0 has a term.
 some_terms : (P : Problem) (f : Poly) → f ≢ [] → 1 ≤ length (terms_by_rank P f)
 some_terms P [] s = absurd (s refl)
 some_terms P (t ∷ f) s = omega arith
@@ -167,10 +168,12 @@ verdict_again : (v : Verdict) → verdict_of (answer_in v) (corner_in v) ≡ v
 verdict_again (Fits f) = refl
 verdict_again (TooSmall m) = refl
 
+-- A verdict names a corner only where it says that the degree fits.
 corner_named : (v : Verdict) → HasCorner (answer_in v) (corner_in v)
 corner_named (Fits f) = tt
 corner_named (TooSmall m) = refl
 
+-- An answer and its corner are those of the verdict that they make.
 pub answer_again : (a : Answer) (o : Option (List ℕ)) → HasCorner a o → (answer_in (verdict_of a o) ≡ a) × (corner_in (verdict_of a o) ≡ o)
 answer_again (answers.Fits basis stair) o h = (refl, refl)
 answer_again (answers.TooSmall m) o h = (refl, sym h)
@@ -181,11 +184,13 @@ canonical_gens r [] h k z i = absurd (omega (arith, i))
 canonical_gens r (f ∷ fs) h zero z i = h.0.canonical
 canonical_gens r (f ∷ fs) h (suc k) z i = canonical_gens r fs h.1 k z (omega (arith, i))
 
+-- The generators of a ring's block have degree at most D.
 low_gens : (r : Ring) (fs : List Polynomial) → AllByRecursion (IsPolyOf r) fs → (k : ℕ) (z : Poly) → k < length (map (λ f. f.terms) fs) → HasDegreeAtMost r.d (get_or (map (λ f. f.terms) fs) k z)
 low_gens r [] h k z i = absurd (omega (arith, i))
 low_gens r (f ∷ fs) h zero z i = h.0.low
 low_gens r (f ∷ fs) h (suc k) z i = low_gens r fs h.1 k z (omega (arith, i))
 
+-- They are polynomials in the ring's variables.
 gens_again : (r : Ring) (fs : List Polynomial) → AllByRecursion (IsPolyOf r) fs → map (in_variables (length r.letters)) (map (λ f. f.terms) fs) ≡ fs
 gens_again r [] h = refl
 gens_again r (f ∷ fs) h =
