@@ -10,6 +10,7 @@ use Rattle.local_order.specs.Mono.{degree, IsWithinLimits}
 use Rattle.script_grammar.specs.Words.{exponents}
 use Rattle.script_grammar.specs.Meaning.{letter_exponent}
 use Rattle.ring_reader.specs.Constant.{short_mono}
+use Rattle.ring_reader.proofs.Table.{no_some}
 
 -- the degree is no less than an exponent
 pub letter_over : (letters w : List ℕ) (i : ℕ) → i < length letters → 1000 < letter_exponent (exponents w) (get_or letters i 0) → 1000 < degree (short_mono letters w)
@@ -46,10 +47,6 @@ exponents_go exps letters w i x l within have l_is some so_far =
     ∙ sym (map-append (letter_exponent (exponents w)) (take i letters) (get_or letters i 0 ∷ []))
     ∙ ap (map (letter_exponent (exponents w))) (sym (take_more letters i 0 have))
 
--- None isn't something.
-no_none : (X : Type 0) → IsSome {T = X} None → ⊥
-no_none X e = absurd cc
-
 -- all exponents
 pub exponents_end : (exps letters w : List ℕ) (i n : ℕ) → n ≡ length letters → n ≤ i → i ≤ n → take i exps ≡ short_mono (take i letters) w → take n exps ≡ short_mono letters w
 exponents_end exps letters w i n count low high so_far =
@@ -59,4 +56,4 @@ exponents_end exps letters w i n count low high so_far =
 -- a refused monomial
 pub none_limits : (X : Type 0) (r : Option X) (Q P : Type 0) → IsSome r ↔ Q → ((Q → ⊥) → P) → IfNone r P
 none_limits X (Some x) Q P h f = tt
-none_limits X None Q P h f = f (λ q. no_none X (h.1 q))
+none_limits X None Q P h f = f (λ q. no_some X (h.1 q))

@@ -9,17 +9,10 @@ use Rattle.script_grammar.specs.Steps.{◌>>=◌}
 use Rattle.script_grammar.specs.Words.{is_the_mark}
 use Rattle.script_grammar.specs.Expressions.{Declarations, power_at, times_at, term_at, more_at}
 use Rattle.script_grammar.specs.Meaning.{Values, in_ring, opposite, power_value, term_value, sum_value}
+use Rattle.script_grammar.proofs.Steps.{ok_is}
 use Rattle.ring_reader.specs.declared.stop.Stop.{Stop}
 use Rattle.ring_reader.specs.declared.stop.Stop.TheVariants as stops
 use Rattle.ring_reader.specs.Gives.{Fails, meant}
-
--- what was read
-abbrev done : {A : Type 0} → A → Result A Refusal
-done x = Ok x
-
--- What is read is one thing.
-pub ok_is : {A : Type 0} (x y : A) → done x ≡ done y → x ≡ y
-ok_is x y e = cc
 
 -- the tree behind a value that was read
 pub meant_ok : {A B : Type 0} (f : A → B) (r : Result (A × Place) Refusal) (v : B) (t : Place) → meant f r ≡ Ok (v, t) → (x : A) × (r ≡ Ok (x, t)) × (v ≡ f x)

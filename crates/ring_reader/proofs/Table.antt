@@ -26,7 +26,7 @@ pub not_in_table : (p : ℕ) → (InTable p → ⊥) → list_any (λ q. q == p)
 not_in_table p h = any_turned p table ∙ not_in-by p (list_any (nat_eq p) table) refl h
 
 -- None isn't something.
-no_some : (X : Type 0) → IsSome {T = X} None → ⊥
+pub no_some : (X : Type 0) → IsSome {T = X} None → ⊥
 no_some X e = absurd cc
 
 -- A field that is there has a characteristic that passes the test,
