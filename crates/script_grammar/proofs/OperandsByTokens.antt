@@ -15,6 +15,7 @@ use Rattle.script_grammar.specs.Steps.{◌>>=◌, refused, kind_at, numeral_at, 
 use Rattle.script_grammar.specs.Expressions.{Declarations, below_at, fraction_at, word_operand_at, operand_at}
 use Rattle.script_grammar.specs.Valid.{ValidOperand}
 use Rattle.script_grammar.proofs.Steps.{mark_is, some_word_is}
+use Rattle.script_grammar.proofs.CauseSteps.{not_both}
 use Rattle.script_grammar.proofs.ByTokens.{Any, Local, local_done, local_refuse, local_where, local_same, local_next, local_cases, local_value, local_if}
 use Rattle.script_grammar.proofs.ByTokensInTurn.{local_behind, cond_bind}
 
@@ -101,10 +102,6 @@ name_tests keyword numeral poly false large p q r s u = absurd cc
 -- A poly's name is an operand.
 poly_tests : (keyword numeral poly short large : Bool) → keyword ≡ false → numeral ≡ false → poly ≡ true → (not numeral && (not keyword && (poly || (short && not large)))) ≡ true
 poly_tests keyword numeral poly short large p q r = rw (p, q, r) refl
-
--- No test comes out both ways.
-not_both : (b : Bool) → b ≡ false → b ≡ true → ⊥
-not_both b p q = cc
 
 -- A word as an operand is read, or refused, by its tokens.
 word_operand_local : {P : ReadKind → List Token → Type 0} {n : ℕ} (known : Declarations) (deep : ℕ) (w : List ℕ) → 1 < known.prime
