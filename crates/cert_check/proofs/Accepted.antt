@@ -1,9 +1,9 @@
 -- A block is accepted exactly where all its checks hold: the checks of an entry say that it is legal.
 use Rattle.std.proofs.Common.{◌≡◌, ℕ, zero, suc, ◌+◌, ◌<◌, ◌≤◌, ◌↔◌, List, [], ◌∷◌, ◌++◌, length, get_or, take, All, Option, Some, cond, sym, ◌∙◌, ap, subst, arith, ◌⊎◌, inl, inr}
 use Rattle.std.proofs.lemmas.Bool.{cases_lt, lt-ltb, le-ltb}
-use Rattle.std.proofs.lemmas.List.{take_all, get_or_default, same_lists}
+use Rattle.std.proofs.lemmas.List.{length-map, take_all, get_or_default, same_lists}
 use Rattle.rank_algebra.specs.Ranks.{Ranks}
-use Rattle.sparse_poly.specs.Poly.{Poly}
+use Rattle.sparse_poly.specs.Poly.{Polynomial, Poly}
 use Rattle.sparse_poly.specs.Ideal.{Problem}
 use Rattle.entry_code.specs.Entry.{Entry, no_entry, entry_at}
 use Rattle.rank_algebra.specs.Division.{Basis, first_of, corner_of}
@@ -14,7 +14,10 @@ use Rattle.mora_law.specs.Start.{run_of}
 use Rattle.mora_law.specs.Entries.{basis_of}
 use Rattle.mora_law.specs.Legal.{IsItemOf, IsLegalEntry, Legal}
 use Rattle.mora_law.specs.Basis.{basis}
-use Rattle.cert_check.specs.Block.{Answer, fits, too_small, Block, IsRead}
+use Rattle.text_out.specs.declared.answer.Answer.{Answer}
+use Rattle.text_out.specs.declared.answer.Answer.TheVariants.{Fits, TooSmall}
+use Rattle.cert_check.specs.declared.block.Block.{Block}
+use Rattle.cert_check.specs.Block.{IsRead, terms_of_each}
 use Rattle.cert_check.specs.Accepted.{IsAfterFits, IsFreeList, highest_corner, IsAcceptedBlock}
 use Rattle.cert_check.specs.Checks.{Check, terms, tickets, verdict, count, highest, stair, reading_checks, entry_checks, entries_checks, member_checks, answer_checks, checks, IsKnown, IsCornerOf, IsRun, AreTerms, Holds}
 use Rattle.cert_check.proofs.Along.{orderly_from, orderly_each, last_is, last_place, between_from, between_each}
@@ -148,22 +151,25 @@ module _ (P : Problem) (entries : List Entry) (high : Option (List ℕ)) where
 
   -- the checks after the verdict hold where what is there is what the entries say
   after_is_checked : (a : Answer) → IsAfterFits P entries a high ↔ Every (Holds (with_answer a)) (answer_checks a)
-  after_is_checked (too_small m) = ((λ x. tt), (λ x. tt))
-  after_is_checked (fits gs s) = (to, from)
+  after_is_checked (TooSmall m) = ((λ x. tt), (λ x. tt))
+  after_is_checked (Fits gs s) = (to, from)
     where
-      Q : Check → Type 0
-      Q = Holds (with_answer (fits gs s))
+      long : (fs : List Polynomial) → length fs ≡ length (terms_of_each fs)
+      long fs = sym (length-map fs (λ f. f.terms))
 
-      to : (gs ≡ basis P entries) × (high ≡ highest_corner P entries) × IsFreeList P entries s → Every Q (count ∷ (member_checks (length gs) 0 ++ highest ∷ stair ∷ []))
+      Q : Check → Type 0
+      Q = Holds (with_answer (Fits gs s))
+
+      to : (terms_of_each gs ≡ basis P entries) × (high ≡ highest_corner P entries) × IsFreeList P entries s → Every Q (count ∷ (member_checks (length gs) 0 ++ highest ∷ stair ∷ []))
       to x = (
-        ap length x.0,
+        long gs ∙ ap length x.0,
         every_append Q (member_checks (length gs) 0) (highest ∷ stair ∷ []) (members_every Q (length gs) 0 (λ k l m. ap (λ (fs : List Poly). get_or fs k []) x.0)) (x.1, (x.2, tt)),
       )
 
-      from : Every Q (count ∷ (member_checks (length gs) 0 ++ highest ∷ stair ∷ [])) → (gs ≡ basis P entries) × (high ≡ highest_corner P entries) × IsFreeList P entries s
+      from : Every Q (count ∷ (member_checks (length gs) 0 ++ highest ∷ stair ∷ [])) → (terms_of_each gs ≡ basis P entries) × (high ≡ highest_corner P entries) × IsFreeList P entries s
       from h =
           let z = every_parts Q (member_checks (length gs) 0) (highest ∷ stair ∷ []) h.1 in
-          (same gs (basis P entries) h.0 (λ k l. every_members Q (length gs) 0 z.0 k (omega arith) (omega (arith, l))), z.1.0, z.1.1.0)
+          (same (terms_of_each gs) (basis P entries) (sym (long gs) ∙ h.0) (λ k l. every_members Q (length gs) 0 z.0 k (omega arith) (omega (arith, l, long gs))), z.1.0, z.1.1.0)
         where
           same : (fs hs : List Poly) → length fs ≡ length hs → ((k : ℕ) → k < length fs → get_or fs k [] ≡ get_or hs k []) → fs ≡ hs
           same fs hs e at = same_lists fs hs e (λ k d l. get_or_default fs k d [] l ∙ at k l ∙ get_or_default hs k [] d (omega (arith, l, e)))

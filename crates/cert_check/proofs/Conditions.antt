@@ -1,5 +1,5 @@
 -- The condition of each check is decided.
-use Rattle.std.proofs.Common.{◌≡◌, ℕ, ◌%◌, ◌<◌, ◌≤◌, ◌⊎◌, List, length, refl, ap, ap₂, inl, inr}
+use Rattle.std.proofs.Common.{◌≡◌, ℕ, ◌%◌, ◌<◌, ◌≤◌, List, length, refl, ap, ap₂, inl, inr}
 use Rattle.rank_algebra.specs.Ranks.{Ranks}
 use Rattle.sparse_poly.specs.Poly.{Term as PolyTerm}
 use Rattle.sparse_poly.specs.Ideal.{Problem}
@@ -10,17 +10,18 @@ use Rattle.entry_code.specs.declared.term.Term.{Term}
 use Rattle.entry_code.specs.Entry.{Entry}
 use Rattle.rank_algebra.specs.Vector.{Vector, nothing, Agree}
 use Rattle.rank_algebra.specs.Division.{Basis}
-use Rattle.mora_law.specs.Ring.{ranks_of_problem, generators_of}
 use Rattle.mora_law.specs.declared.step_end.StepEnd.{StepEnd}
 use Rattle.mora_law.specs.declared.step_end.StepEnd.TheVariants.{Zero, Reduced, Stuck}
 use Rattle.mora_law.specs.Entries.{leads}
 use Rattle.mora_law.specs.Legal.{IsItemOf}
 use Rattle.mora_law.specs.Skip.{skip}
-use Rattle.mora_law.specs.Settled.{IsSkipped, LeavesNothing}
-use Rattle.mora_law.proofs.Tickets.{ticket_below, item_below}
-use Rattle.cert_check.specs.Block.{Answer, fits, too_small, Block}
-use Rattle.cert_check.specs.Accepted.{AreDivided, IsVerdict}
+use Rattle.mora_law.specs.Settled.{IsSkipped}
+use Rattle.text_out.specs.declared.answer.Answer.{Answer}
+use Rattle.text_out.specs.declared.answer.Answer.TheVariants.{Fits, TooSmall}
+use Rattle.cert_check.specs.declared.block.Block.{Block}
+use Rattle.cert_check.specs.Accepted.{IsDivided, AreDivided, IsVerdict}
 use Rattle.cert_check.specs.Checks.{Check, item, known, corner as corner_check, run, terms, tickets, verdict, count, member, highest, stair, IsKnown, IsCornerOf, IsCounted, IsMember, IsStair, Holds}
+use Rattle.cert_check.proofs.TicketParts.{divided_from, divided_generators, divided_pairs}
 use Rattle.cert_check.proofs.Decide.{Decided, decided_by, decided_both, decided_either, decided_not, decided_if, decided_each, decided_lt, decided_le, decided_nat, decided_list, decided_option, decided_is_some}
 use Rattle.cert_check.proofs.Monomials.{decided_first, decided_free}
 
@@ -80,10 +81,6 @@ decided_nothing R w v = decided_by
     (decided_each (λ r. v r % R.p ≡ 0 % R.p) (λ r. decided_nat _ _) w)
 
 module _ (P : Problem) (entries : List Entry) where
-  -- what is asked of a ticket
-  abbrev Divided : Item → Type 0
-  Divided x = IsSkipped P entries x ⊎ LeavesNothing (ranks_of_problem P) (generators_of P) entries x
-
   -- whether a pair is skipped
   decided_skipped : (x : Item) → Decided (IsSkipped P entries x)
   decided_skipped (Generator g) = inr (λ z. z)
@@ -91,44 +88,34 @@ module _ (P : Problem) (entries : List Entry) where
 
   -- whether each ticket is skipped or leaves nothing
   decided_divided : Decided (AreDivided P entries)
-  decided_divided = decided_by to from (decided_both
-      (decided_each (λ g. Divided (Generator g)) (λ g. one (Generator g)) (length P.gens))
-      (decided_each (λ j. (i : ℕ) → i < j → Divided (Pair i j)) (λ j. decided_each (λ i. Divided (Pair i j)) (λ i. one (Pair i j)) j) (length entries)))
+  decided_divided = decided_by (λ x. divided_from P entries x.0 x.1) (λ h. (divided_generators P entries h, divided_pairs P entries h)) (decided_both
+      (decided_each (λ g. IsDivided P entries (Generator g)) (λ g. one (Generator g)) (length P.gens))
+      (decided_each (λ j. (i : ℕ) → i < j → IsDivided P entries (Pair i j)) (λ j. decided_each (λ i. IsDivided P entries (Pair i j)) (λ i. one (Pair i j)) j) (length entries)))
     where
-      one : (x : Item) → Decided (Divided x)
+      one : (x : Item) → Decided (IsDivided P entries x)
       one x = decided_either (decided_skipped x) (decided_nothing _ _ _)
-
-      to : ((g : ℕ) → g < length P.gens → Divided (Generator g)) × ((j : ℕ) → j < length entries → (i : ℕ) → i < j → Divided (Pair i j)) → AreDivided P entries
-      to (gs, ps) x t l = at x (item_below (length P.gens) (length entries) x t l)
-        where
-          at : (x : Item) → IsItemOf (length P.gens) (length entries) x → Divided x
-          at (Generator g) f = gs g f
-          at (Pair i j) f = ps j f.1 i f.0
-
-      from : AreDivided P entries → ((g : ℕ) → g < length P.gens → Divided (Generator g)) × ((j : ℕ) → j < length entries → (i : ℕ) → i < j → Divided (Pair i j))
-      from h = ((λ g l. h (Generator g) l (ticket_below _ _ (Generator g) l)), (λ j l i m. h (Pair i j) m (ticket_below _ _ (Pair i j) (m, l))))
 
   -- ---- the answer
   module _ (some : 1 ≤ P.n) where
     -- whether the verdict is right
     decided_verdict : (a : Answer) → Decided (IsVerdict P entries a)
-    decided_verdict (fits gs s) = decided_le _ _
-    decided_verdict (too_small m) = decided_both (decided_not (decided_le _ _)) (decided_first P some entries m)
+    decided_verdict (Fits gs s) = decided_le _ _
+    decided_verdict (TooSmall m) = decided_both (decided_not (decided_le _ _)) (decided_first P some entries m)
 
     -- whether the basis has as many members
     decided_count : (a : Answer) → Decided (IsCounted P entries a)
-    decided_count (fits gs s) = decided_nat _ _
-    decided_count (too_small m) = inl tt
+    decided_count (Fits gs s) = decided_nat _ _
+    decided_count (TooSmall m) = inl tt
 
     -- whether member k is the same
     decided_member : (a : Answer) (k : ℕ) → Decided (IsMember P entries a k)
-    decided_member (fits gs s) k = decided_list decided_poly_term _ _
-    decided_member (too_small m) k = inl tt
+    decided_member (Fits gs s) k = decided_list decided_poly_term _ _
+    decided_member (TooSmall m) k = inl tt
 
     -- whether the staircase is
     decided_stair : (a : Answer) → Decided (IsStair P entries a)
-    decided_stair (fits gs s) = decided_free P some entries s
-    decided_stair (too_small m) = inl tt
+    decided_stair (Fits gs s) = decided_free P some entries s
+    decided_stair (TooSmall m) = inl tt
 
 -- the condition of a check is decided
 pub decided_check : (b : Block) → 1 ≤ b.problem.n → (c : Check) → Decided (Holds b c)

@@ -4,7 +4,8 @@ use Rattle.std.proofs.lemmas.Bool.{cases_order}
 use Rattle.std.proofs.lemmas.Option.{get_or_from_slice_get}
 use Rattle.std.proofs.lemmas.List.{get_or-take}
 use Rattle.cert_check.specs.declared.reason.Reason.{Reason}
-use Rattle.cert_check.specs.Block.{Block, IsRead}
+use Rattle.cert_check.specs.declared.block.Block.{Block}
+use Rattle.cert_check.specs.Block.{IsRead}
 use Rattle.cert_check.specs.Accepted.{IsAcceptedBlock}
 use Rattle.cert_check.specs.Checks.{Check, checks, line_of, reason_of, Holds}
 use Rattle.cert_check.specs.Fault.{IsFirstFaultIn, IsFirstFault, block_line, IsFirstFaultOf}

@@ -19,7 +19,9 @@ use Rattle.mora_law.specs.Legal.{Legal}
 use Rattle.mora_law.specs.Settled.{IsSkipped, LeavesNothing, IsSettled, AllSettled}
 use Rattle.mora_law.proofs.Problems.{monic, criterion, basis_is_reduced}
 use Rattle.mora_law.proofs.Corners.{corner_is_of_leads, lead_is_multiple, fits_by_corner}
-use Rattle.cert_check.specs.Block.{Answer, fits, too_small, Block}
+use Rattle.text_out.specs.declared.answer.Answer.{Answer}
+use Rattle.text_out.specs.declared.answer.Answer.TheVariants.{Fits, TooSmall}
+use Rattle.cert_check.specs.declared.block.Block.{Block}
 use Rattle.cert_check.specs.Accepted.{AreDivided, IsFirstFree, IsVerdict, IsFreeList, before, highest_corner, IsAfterFits, IsAcceptedBlock}
 use Rattle.cert_check.specs.Right.{IsRight}
 
@@ -140,13 +142,13 @@ module _ (P : Problem) (h : IsAdmissible P) (entries : List Entry) (legal : Lega
 
   -- so the answer is right
   answer_is_right : (a : Answer) (highest : Option (List ℕ)) → IsVerdict P entries a → IsAfterFits P entries a highest → IsRight P a highest
-  answer_is_right (fits gs s) highest v x = (
+  answer_is_right (Fits gs s) highest v x = (
     (fits_by_corner P h entries legal settled).1 v,
     subst (IsReducedBasis P) (sym x.0) (basis_is_reduced P h entries legal settled),
     free_is_stair s x.2,
     x.1 ∙ corner_is_last s (free_is_stair s x.2),
   )
-  answer_is_right (too_small m) highest v x = ((λ f. v.0 ((fits_by_corner P h entries legal settled).0 f)), free_is_missing m v.1)
+  answer_is_right (TooSmall m) highest v x = ((λ f. v.0 ((fits_by_corner P h entries legal settled).0 f)), free_is_missing m v.1)
 
 -- the answer of an accepted block is right
 pub right : (b : Block) → IsAdmissible b.problem → IsAcceptedBlock b → IsRight b.problem b.answer b.corner

@@ -12,16 +12,22 @@ use Rattle.mora_law.specs.Legal.{Legal}
 use Rattle.mora_law.specs.Tickets.{HasTicket, ticket_of, total}
 use Rattle.mora_law.specs.Settled.{IsSkipped, LeavesNothing}
 use Rattle.mora_law.specs.Basis.{basis}
-use Rattle.cert_check.specs.Block.{Answer, fits, too_small, Block}
+use Rattle.text_out.specs.declared.answer.Answer.{Answer}
+use Rattle.text_out.specs.declared.answer.Answer.TheVariants.{Fits, TooSmall}
+use Rattle.cert_check.specs.declared.block.Block.{Block}
+use Rattle.cert_check.specs.Block.{terms_of_each}
 
 -- a lead of the entries divides m
 abbrev pub IsMultipleOfLeads : Problem → List Entry → List ℕ → Type 0
 IsMultipleOfLeads P entries m = (l : List ℕ) × Contains (leads P entries) l × Divides l m
 
--- each ticket below the total is skipped, or plain division of its start by all entries leaves nothing
+-- the pair of the item is skipped, or plain division of its start by all entries leaves nothing
+abbrev pub IsDivided : Problem → List Entry → Item → Type 0
+IsDivided P entries item = IsSkipped P entries item ⊎ LeavesNothing (ranks_of_problem P) (generators_of P) entries item
+
+-- so it is with each ticket below the total
 abbrev pub AreDivided : Problem → List Entry → Type 0
-AreDivided P entries = (item : Item) → HasTicket (length P.gens) item → ticket_of (length P.gens) item < total (length P.gens) (length entries)
-    → IsSkipped P entries item ⊎ LeavesNothing (ranks_of_problem P) (generators_of P) entries item
+AreDivided P entries = (item : Item) → HasTicket (length P.gens) item → ticket_of (length P.gens) item < total (length P.gens) (length entries) → IsDivided P entries item
 
 -- m is the greatest monomial of degree d that is a multiple of no lead
 pub record IsFirstFree (P : Problem) (entries : List Entry) (m : List ℕ) : Type 0 where
@@ -33,8 +39,8 @@ pub record IsFirstFree (P : Problem) (entries : List Entry) (m : List ℕ) : Typ
 -- the answer is that the degree fits exactly where the corner of the entries is at most the first rank of degree d,
 -- and else names the greatest monomial of degree d that is a multiple of no lead
 abbrev pub IsVerdict : Problem → List Entry → Answer → Type 0
-IsVerdict P entries (fits gs s) = corner P entries ≤ fewer P.n P.d
-IsVerdict P entries (too_small m) = (corner P entries ≤ fewer P.n P.d → ⊥) × IsFirstFree P entries m
+IsVerdict P entries (Fits gs s) = corner P entries ≤ fewer P.n P.d
+IsVerdict P entries (TooSmall m) = (corner P entries ≤ fewer P.n P.d → ⊥) × IsFirstFree P entries m
 
 -- s has the monomials of degree at most d that are multiples of no lead, the greatest first, each once
 pub record IsFreeList (P : Problem) (entries : List Entry) (s : List (List ℕ)) : Type 0 where
@@ -53,8 +59,8 @@ highest_corner P entries = before P (corner P entries)
 
 -- after `fits`: the basis that plain division makes of the entries, the highest corner, and the monomials that are multiples of no lead
 abbrev pub IsAfterFits : Problem → List Entry → Answer → Option (List ℕ) → Type 0
-IsAfterFits P entries (fits gs s) highest = (gs ≡ basis P entries) × (highest ≡ highest_corner P entries) × IsFreeList P entries s
-IsAfterFits P entries (too_small m) highest = ⊤
+IsAfterFits P entries (Fits gs s) highest = (terms_of_each gs ≡ basis P entries) × (highest ≡ highest_corner P entries) × IsFreeList P entries s
+IsAfterFits P entries (TooSmall m) highest = ⊤
 
 -- the block is accepted
 pub record IsAcceptedBlock (b : Block) : Type 0 where

@@ -15,7 +15,10 @@ use Rattle.mora_law.specs.Legal.{IsItemOf}
 use Rattle.mora_law.specs.Basis.{basis}
 use Rattle.cert_check.specs.declared.reason.Reason.{Reason}
 use Rattle.cert_check.specs.declared.reason.Reason.TheVariants as reasons
-use Rattle.cert_check.specs.Block.{Answer, fits, too_small, Block}
+use Rattle.text_out.specs.declared.answer.Answer.{Answer}
+use Rattle.text_out.specs.declared.answer.Answer.TheVariants.{Fits, TooSmall}
+use Rattle.cert_check.specs.declared.block.Block.{Block}
+use Rattle.cert_check.specs.Block.{terms_of_each}
 use Rattle.cert_check.specs.Accepted.{AreDivided, IsVerdict, highest_corner, IsFreeList}
 
 -- what is checked: of entry i its item, of its reading j what it knows, its corner and how its step ends, and its terms;
@@ -55,8 +58,8 @@ member_checks (suc left) k = member k ∷ member_checks left (suc k)
 
 -- of what stands after the verdict
 abbrev pub answer_checks : Answer → List Check
-answer_checks (fits gs s) = count ∷ (member_checks (length gs) 0 ++ highest ∷ stair ∷ [])
-answer_checks (too_small m) = []
+answer_checks (Fits gs s) = count ∷ (member_checks (length gs) 0 ++ highest ∷ stair ∷ [])
+answer_checks (TooSmall m) = []
 
 -- of a block
 abbrev pub checks : Block → List Check
@@ -78,8 +81,8 @@ verdict_line b = entry_line b (length b.entries)
 
 -- how many members the block's basis has
 abbrev pub basis_size : Answer → ℕ
-basis_size (fits gs s) = length gs
-basis_size (too_small m) = 0
+basis_size (Fits gs s) = length gs
+basis_size (TooSmall m) = 0
 
 -- the line of a check
 abbrev pub line_of : Block → Check → ℕ
@@ -100,8 +103,8 @@ abbrev pub block_lines : Block → ℕ
 block_lines b = answer_end b.answer
   where
     answer_end : Answer → ℕ
-    answer_end (fits gs s) = verdict_line b + 5 + length gs
-    answer_end (too_small m) = verdict_line b + 2
+    answer_end (Fits gs s) = verdict_line b + 5 + length gs
+    answer_end (TooSmall m) = verdict_line b + 2
 
 -- ---- reasons
 -- the reason of a check
@@ -164,18 +167,18 @@ AreTerms R G B e = e.terms ≡ terms_of R (monic R (run_of R G B e.item e.reads)
 
 -- the block's basis has as many members as that of the entries
 abbrev pub IsCounted : Problem → List Entry → Answer → Type 0
-IsCounted P entries (fits gs s) = length gs ≡ length (basis P entries)
-IsCounted P entries (too_small m) = ⊤
+IsCounted P entries (Fits gs s) = length gs ≡ length (basis P entries)
+IsCounted P entries (TooSmall m) = ⊤
 
 -- its member k is that of the entries
 abbrev pub IsMember : Problem → List Entry → Answer → ℕ → Type 0
-IsMember P entries (fits gs s) k = get_or gs k [] ≡ get_or (basis P entries) k []
-IsMember P entries (too_small m) k = ⊤
+IsMember P entries (Fits gs s) k = get_or (terms_of_each gs) k [] ≡ get_or (basis P entries) k []
+IsMember P entries (TooSmall m) k = ⊤
 
 -- its staircase has the monomials that are multiples of no lead
 abbrev pub IsStair : Problem → List Entry → Answer → Type 0
-IsStair P entries (fits gs s) = IsFreeList P entries s
-IsStair P entries (too_small m) = ⊤
+IsStair P entries (Fits gs s) = IsFreeList P entries s
+IsStair P entries (TooSmall m) = ⊤
 
 -- the condition of a check
 abbrev pub Holds : Block → Check → Type 0

@@ -1,7 +1,7 @@
 -- The first fault of a block, and of all blocks of a certificate.
 use Rattle.std.specs.Prelude.{◌≡◌, ℕ, ◌+◌, List, Some, slice_get, take, map, sum, All}
 use Rattle.cert_check.specs.declared.reason.Reason.{Reason}
-use Rattle.cert_check.specs.Block.{Block}
+use Rattle.cert_check.specs.declared.block.Block.{Block}
 use Rattle.cert_check.specs.Accepted.{IsAcceptedBlock}
 use Rattle.cert_check.specs.Checks.{Check, checks, line_of, reason_of, Holds, block_lines}
 

@@ -3,7 +3,8 @@
 ghost use Rattle.std.specs.Prelude.{◌≡◌, ◌↔◌, ◌⊎◌, ℕ, List, All};
 ghost use Rattle.mora_law.specs.Ring.{IsAdmissible};
 ghost use Rattle.cert_check.specs.declared.reason.Reason.{Reason};
-ghost use Rattle.cert_check.specs.Block.{Block, IsRead};
+ghost use Rattle.cert_check.specs.declared.block.Block.{Block};
+ghost use Rattle.cert_check.specs.Block.{IsRead};
 ghost use Rattle.cert_check.specs.Accepted.{IsAcceptedBlock};
 ghost use Rattle.cert_check.specs.Right.{IsRight};
 ghost use Rattle.cert_check.specs.Checks.{checks, Holds};

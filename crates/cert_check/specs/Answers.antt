@@ -1,0 +1,31 @@
+-- What the checker answers, and what it goes by between the readings of an entry.
+use Rattle.std.specs.Prelude.{◌≡◌, ℕ, ◌<◌, ◌≤◌, List, length, get_or, take, Option, Some, None, All}
+use Rattle.sparse_poly.specs.Ideal.{Problem}
+use Rattle.entry_code.specs.declared.term.Term.{Term}
+use Rattle.entry_code.specs.Placed.{Placed}
+use Rattle.entry_code.specs.Entry.{Entry, entry_at}
+use Rattle.rank_algebra.specs.Vector.{Vector, Agree}
+use Rattle.rank_algebra.specs.Division.{first_of, corner_of}
+use Rattle.mora_law.specs.Ring.{ranks_of_problem}
+use Rattle.mora_law.specs.Entries.{basis_of}
+use Rattle.mora_law.specs.Start.{run}
+use Rattle.mora_law.specs.Alike.{AllAlike}
+use Rattle.cert_check.specs.declared.block.Block.{Block}
+use Rattle.cert_check.specs.declared.fault.Fault.{Fault}
+use Rattle.cert_check.specs.Checks.{Check, Holds}
+use Rattle.cert_check.specs.Fault.{IsFirstFaultIn}
+use Rattle.cert_check.specs.Replay.{vectors_of}
+
+-- no fault where all these checks hold, and else the first
+abbrev pub IsAnswered : Block → List Check → Option Fault → Type 0
+IsAnswered b cs None = All (Holds b) cs
+IsAnswered b cs (Some f) = IsFirstFaultIn b cs f.line f.reason
+
+-- number k is the corner of the first k entries, for each k up to i
+abbrev pub AreCorners : Problem → List Entry → ℕ → List ℕ → Type 0
+AreCorners P entries i corners = (k : ℕ) → k ≤ i → (k < length corners) × (get_or corners k 0 ≡ corner_of (ranks_of_problem P) (first_of k (basis_of entries)))
+
+-- v and the intermediates are those of the run of entry i by its first j readings
+pub record IsReplayed (b : Block) (i j : ℕ) (v : Vector) (ts : List (Placed Term)) : Type 0 where
+  pub poly : Agree (ranks_of_problem b.problem) (ranks_of_problem b.problem).n v (run b.problem b.entries (entry_at b.entries i).item (take j (entry_at b.entries i).reads)).poly
+  pub kept : AllAlike (ranks_of_problem b.problem) (vectors_of ts) (run b.problem b.entries (entry_at b.entries i).item (take j (entry_at b.entries i).reads)).kept
