@@ -8,7 +8,6 @@ use Rattle.std.specs.Io.KnownBytes.{Consumes}
 use Rattle.io_edge.specs.Reads.{Gave}
 use Rattle.script_grammar.specs.declared.refusal.Refusal.{Refusal}
 use Rattle.script_grammar.specs.declared.refusal.ReadKind.{ReadKind}
-use Rattle.script_grammar.specs.declared.script.Word.{Word}
 use Rattle.script_grammar.specs.declared.script.Script.{Script}
 use Rattle.script_grammar.specs.Trees.{Tree}
 use Rattle.script_grammar.specs.Steps.{◌>>=◌}
@@ -25,14 +24,12 @@ use Rattle.local_std.specs.declared.words.Request.{Request as Asked}
 use Rattle.local_std.specs.declared.words.Request.TheVariants.{Solve}
 use Rattle.local_std.specs.View.{request_in}
 use Rattle.local_std.specs.Words.{Request, solve, Asks, InGrammar}
-use Rattle.local_std.specs.Built.{AllBuilt, IsFirstUnbuilt}
 use Rattle.local_std.specs.Endings.{HasText, IsAnswered}
 use Rattle.local_std.specs.Lent.{Lent, IsUntouched, HasFailed, HasGiven}
 use Rattle.local_std.specs.Answer.{IsAnswer, AllFit, SomeIsSmall, IsVerdict}
-use Rattle.local_std.specs.Texts.{usage_line, too_long_line, not_built_line, refusal_line}
-use Rattle.local_std.specs.Scripts.{IsScriptOf, IsTooLong, IsRefused, IsNotBuilt}
+use Rattle.local_std.specs.Texts.{usage_line, too_long_line, refusal_line}
+use Rattle.local_std.specs.Scripts.{IsScriptOf, IsTooLong, IsRefused}
 use Rattle.local_std.specs.Due.{limit_of, RequestDue, Offers, Admits, Served, Due, IsUncertified, IsCut, Ends}
-use Rattle.local_std.proofs.Built.{built_no}
 
 -- the greatest number of bytes of a script that is to be solved
 abbrev script_limit : ℕ
@@ -53,14 +50,14 @@ module _ (bytes : List ℕ) (few : length bytes ≤ script_limit) where
       Refuses bytes (errors.At line column kind) (asked_by bytes) → ((t : Tree) → IsScript bytes t → Refuses bytes (errors.At line column kind) (Ok (meaning t))) → RequestDue solve bytes Input text []
   refused line column kind text spelled (f, is, at) only = inl (record {
     refused = refl;
-    why = inr (inl (record {
+    why = inr (record {
       few = few;
       none = λ t s. absurd (cc (only t s).1);
       refusal = f;
       refuses = refused_of bytes f is;
       first = first_is bytes f (refused_of bytes f is);
       spelled = spelled ∙ same;
-    }));
+    });
     uncertified = refl;
   })
     where
@@ -77,29 +74,15 @@ module _ (bytes : List ℕ) (few : length bytes ≤ script_limit) where
     script_is : IsScriptOf script_limit bytes tree
     script_is = record { few = few; is_script = is; only = λ other o. script_once bytes other tree o is }
 
-    pub not_built : (s : Script) → s ≡ meaning tree → (word : Word) → IsFirstUnbuilt s.commands word → (text : List ℕ) → text ≡ not_built_line word → RequestDue solve bytes Input text []
-    not_built s e word first text spelled = inl (record {
-      refused = refl;
-      why = inr (inr (record {
-        tree = tree;
-        script = script_is;
-        word = word;
-        first = subst (λ (z : Script). IsFirstUnbuilt z.commands word) e first;
-        spelled = spelled;
-      }));
-      uncertified = refl;
-    })
-
     -- the verdict that the flag gives
     verdict_of : (s : Script) (fits : Bool) → OnTrue fits (AllFit s s.commands) → OnFalse fits (SomeIsSmall s s.commands) → IsVerdict s (if fits then Fits else TooSmall)
     verdict_of s true fit small = fit
     verdict_of s false fit small = small
 
-    pub solved : (s : Script) → s ≡ meaning tree → AllBuilt s.commands → (fits : Bool) → OnTrue fits (AllFit s s.commands) → OnFalse fits (SomeIsSmall s s.commands) → (text : List ℕ) → IsAnswer s text → RequestDue solve bytes (if fits then Fits else TooSmall) text []
-    solved s e built fits fit small text answer = inr (record {
+    pub solved : (s : Script) → s ≡ meaning tree → (fits : Bool) → OnTrue fits (AllFit s s.commands) → OnFalse fits (SomeIsSmall s s.commands) → (text : List ℕ) → IsAnswer s text → RequestDue solve bytes (if fits then Fits else TooSmall) text []
+    solved s e fits fit small text answer = inr (record {
       tree = tree;
       script = script_is;
-      built = subst (λ (z : Script). AllBuilt z.commands) e built;
       answer = record {
         verdict = subst (λ z. IsVerdict z (if fits then Fits else TooSmall)) e (verdict_of s fits fit small);
         answer = subst (λ z. IsAnswer z text) e answer;
@@ -157,12 +140,10 @@ given_le None now bytes input is c = absurd (cc (is))
 given_le (Some xs) None bytes input is c = absurd c
 given_le (Some xs) (Some ys) bytes input is c = let e : xs ≡ input = cc (is) in omega (arith, ap length c, length-append bytes ys, ap length e)
 
--- for a script within the limits whose commands are built no line about the input is due
-admitted : (input text : List ℕ) → Admits solve input → IsTooLong script_limit input text ⊎ (IsRefused script_limit input text ⊎ IsNotBuilt script_limit input text) → ⊥
-admitted input text (few, tree, is, built) (inl long) = omega (arith, few, long.many)
-admitted input text (few, tree, is, built) (inr (inl refused)) = refused.none tree is
-admitted input text (few, tree, is, built) (inr (inr unbuilt)) =
-    built_no (meaning unbuilt.tree).commands unbuilt.word (subst (λ (t : Tree). AllBuilt (meaning t).commands) (unbuilt.script.only tree is) built) unbuilt.first
+-- for a script within the limits no line about the input is due
+admitted : (input text : List ℕ) → Admits solve input → IsTooLong script_limit input text ⊎ IsRefused script_limit input text → ⊥
+admitted input text (few, tree, is) (inl long) = omega (arith, few, long.many)
+admitted input text (few, tree, is) (inr refused) = refused.none tree is
 
 -- a verdict answers a script
 verdict_answers : (s : Script) (status : Status) → IsVerdict s status → IsAnswered status

@@ -1,4 +1,3 @@
-pub mod Built
 pub mod Rings
 mod Settled
 pub mod Prefixes

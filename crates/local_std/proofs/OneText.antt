@@ -9,7 +9,7 @@ use Rattle.script_grammar.specs.declared.script.Command.{Command}
 use Rattle.script_grammar.specs.declared.script.Script.{Script}
 use Rattle.text_out.specs.declared.answer.Answer.{Answer}
 use Rattle.text_out.specs.declared.answer.Answer.TheVariants.{Fits, TooSmall}
-use Rattle.text_out.specs.Block.{characteristic_of, heading, small_line, corner_line, dimension_line, kbase_lines, member_lines, fitting_lines, answer_lines}
+use Rattle.text_out.specs.Block.{characteristic_of, heading, small_line, corner_line, dimension_line, kbase_lines, number_line, member_lines, fitting_lines, answer_lines}
 use Rattle.local_std.specs.Answer.{problem_of, IsAnswerOf, IsBlock, AreBlocks, IsAnswer}
 use Rattle.staircase.proofs.Basis.{one_basis}
 use Rattle.staircase.proofs.Staircases.{one_staircase, one_missing, none_missing}
@@ -34,8 +34,8 @@ fitting_lines-terms letters p Std fs gs s t e q =
 fitting_lines-terms letters p Vdim fs gs s t e q = ap dimension_line q
 fitting_lines-terms letters p Kbase fs gs s t e q = ap (kbase_lines letters) q
 fitting_lines-terms letters p HighCorner fs gs s t e q = ap (corner_line letters) q
-fitting_lines-terms letters p Milnor fs gs s t e q = refl
-fitting_lines-terms letters p Tjurina fs gs s t e q = refl
+fitting_lines-terms letters p Milnor fs gs s t e q = ap (number_line Milnor) q
+fitting_lines-terms letters p Tjurina fs gs s t e q = ap (number_line Tjurina) q
 
 -- two answers of an ideal have the same lines
 one_lines : (letters : List ℕ) (p : ℕ) (word : Word) (P : Problem) (a b : Answer) → IsAnswerOf P a → IsAnswerOf P b → answer_lines letters p word a ≡ answer_lines letters p word b

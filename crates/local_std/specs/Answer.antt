@@ -1,8 +1,12 @@
 -- The answer to a script. It is defined by the problems of its commands.
 use Rattle.std.specs.Prelude.{◌≡◌, ℕ, ◌+◌, List, [], ◌∷◌, ◌++◌, length, map, All, Contains}
-use Rattle.sparse_poly.specs.Ideal.{Problem, Fits, IsFirstMissing, IsReducedBasis, IsStaircase}
+use Rattle.sparse_poly.specs.Poly.{Poly}
+use Rattle.sparse_poly.specs.Ideal.{Problem, ring, Fits, IsFirstMissing, IsReducedBasis, IsStaircase}
+use Rattle.sparse_poly.specs.Jacobian.{jacobian_problem, tjurina_problem}
 use Rattle.script_grammar.specs.declared.script.Subject.{Subject}
 use Rattle.script_grammar.specs.declared.script.Subject.TheVariants.{Ideal, Function}
+use Rattle.script_grammar.specs.declared.script.Word.{Word}
+use Rattle.script_grammar.specs.declared.script.Word.TheVariants.{Milnor, Tjurina}
 use Rattle.script_grammar.specs.declared.script.Command.{Command}
 use Rattle.script_grammar.specs.declared.script.Script.{Script}
 use Rattle.local_std.specs.declared.outcome.Status.{Status}
@@ -11,14 +15,20 @@ use Rattle.text_out.specs.declared.answer.Answer.{Answer}
 use Rattle.text_out.specs.declared.answer.Answer.TheVariants as answers
 use Rattle.text_out.specs.Block.{block}
 
--- The problem of what a command is asked of: an ideal has its generators, cut beyond the noether degree. Those of a
--- polynomial are still to come, and are none yet.
-abbrev pub problem_in : Script → Subject → Problem
-problem_in s (Ideal P) = P
-problem_in s (Function f) = record { p = s.field; n = length s.names; d = s.d; gens = [] }
+-- The problem of a word that is asked of a function: that of its Milnor number or of its Tjurina number. The other words are asked of
+-- none, and have a problem without generators.
+abbrev pub function_problem : Word → ℕ → ℕ → ℕ → Poly → Problem
+function_problem Milnor p n d f = jacobian_problem p n d f
+function_problem Tjurina p n d f = tjurina_problem p n d f
+function_problem other p n d f = ring p n d
+
+-- The problem of a word and what it is asked of: an ideal has its generators, cut beyond the noether degree.
+abbrev pub problem_in : Script → Word → Subject → Problem
+problem_in s word (Ideal P) = P
+problem_in s word (Function f) = function_problem word s.field (length s.names) s.d f.terms
 
 abbrev pub problem_of : Script → Command → Problem
-problem_of s c = problem_in s c.subject
+problem_of s c = problem_in s c.word c.subject
 
 -- the answer of a problem: its reduced basis and its staircase where the degree fits, and else the first missing monomial
 abbrev pub IsAnswerOf : Problem → Answer → Type 0

@@ -3,11 +3,9 @@ use Rattle.std.specs.Prelude.{◌≡◌, ℕ, ◌≤◌, ◌⊎◌, List, [], le
 use Rattle.script_grammar.specs.Limits.{max_script}
 use Rattle.script_grammar.specs.Trees.{Tree}
 use Rattle.script_grammar.specs.Valid.{IsScript}
-use Rattle.script_grammar.specs.Meaning.{meaning}
 use Rattle.local_std.specs.declared.outcome.Status.{Status}
 use Rattle.local_std.specs.declared.outcome.Status.TheVariants.{Memory, ReadFault, WriteFault, Usage}
 use Rattle.local_std.specs.Words.{Request, solve, Asks, InGrammar}
-use Rattle.local_std.specs.Built.{AllBuilt}
 use Rattle.local_std.specs.Answer.{Solves}
 use Rattle.local_std.specs.Scripts.{ScriptDue}
 use Rattle.local_std.specs.Texts.{usage_line}
@@ -41,7 +39,7 @@ Offers solve source input = source.bytes source.before ≡ Some input
 
 -- it answers this input
 abbrev pub Admits : Request → List ℕ → Type 0
-Admits solve input = (length input ≤ limit_of solve) × (tree : Tree) × IsScript input tree × AllBuilt (meaning tree).commands
+Admits solve input = (length input ≤ limit_of solve) × (tree : Tree) × IsScript input tree
 
 -- ---- what is due
 -- the request has read some input, and this is due for it

@@ -1,5 +1,4 @@
 pub mod Words
-pub mod Built
 pub mod Endings
 pub mod Lent
 pub mod Answer

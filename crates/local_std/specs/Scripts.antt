@@ -1,7 +1,6 @@
 -- What is due for the bytes of a script, whatever a request answers to a script that is read.
 use Rattle.std.specs.Prelude.{◌≡◌, ℕ, ◌<◌, ◌≤◌, ◌⊎◌, List, [], length, Err}
 use Rattle.script_grammar.specs.declared.refusal.Refusal.{Refusal}
-use Rattle.script_grammar.specs.declared.script.Word.{Word}
 use Rattle.script_grammar.specs.declared.script.Script.{Script}
 use Rattle.script_grammar.specs.Trees.{Tree}
 use Rattle.script_grammar.specs.Script.{script_of, position_of}
@@ -10,8 +9,7 @@ use Rattle.script_grammar.specs.Meaning.{meaning}
 use Rattle.script_grammar.specs.First.{IsFirst}
 use Rattle.local_std.specs.declared.outcome.Status.{Status}
 use Rattle.local_std.specs.declared.outcome.Status.TheVariants.{Input}
-use Rattle.local_std.specs.Built.{AllBuilt, IsFirstUnbuilt}
-use Rattle.local_std.specs.Texts.{too_long_line, not_built_line, refusal_line}
+use Rattle.local_std.specs.Texts.{too_long_line, refusal_line}
 
 -- the bytes are a script of the grammar, and of one tree alone
 pub record IsScriptOf (limit : ℕ) (input : List ℕ) (tree : Tree) : Type 0 where
@@ -33,25 +31,16 @@ pub record IsRefused (limit : ℕ) (input text : List ℕ) : Type 0 where
   pub first : IsFirst input refusal
   pub spelled : text ≡ refusal_line (position_of input refusal).0 (position_of input refusal).1 refusal.kind
 
--- the script has a command that isn't built, and the text names the first one
-pub record IsNotBuilt (limit : ℕ) (input text : List ℕ) : Type 0 where
-  pub tree : Tree
-  pub script : IsScriptOf limit input tree
-  pub word : Word
-  pub first : IsFirstUnbuilt (meaning tree).commands word
-  pub spelled : text ≡ not_built_line word
-
 pub record IsNotRead (limit : ℕ) (input : List ℕ) (status : Status) (text proof : List ℕ) : Type 0 where
   pub refused : status ≡ Input
-  pub why : IsTooLong limit input text ⊎ (IsRefused limit input text ⊎ IsNotBuilt limit input text)
+  pub why : IsTooLong limit input text ⊎ IsRefused limit input text
   pub uncertified : proof ≡ []
 
 -- ---- what answers it
--- the bytes are a script whose commands are built, and A holds of the script, the status and the texts
+-- the bytes are a script, and A holds of the script, the status and the texts
 pub record IsRead (A : Script → Status → List ℕ → List ℕ → Type 0) (limit : ℕ) (input : List ℕ) (status : Status) (text proof : List ℕ) : Type 0 where
   pub tree : Tree
   pub script : IsScriptOf limit input tree
-  pub built : AllBuilt (meaning tree).commands
   pub answer : A (meaning tree) status text proof
 
 -- what is due where A is the request's own answer to a script

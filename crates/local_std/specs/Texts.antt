@@ -4,18 +4,12 @@ use Rattle.script_grammar.specs.declared.refusal.What.{What}
 use Rattle.script_grammar.specs.declared.refusal.What.TheVariants as whats
 use Rattle.script_grammar.specs.declared.refusal.ReadKind.{ReadKind}
 use Rattle.script_grammar.specs.declared.refusal.ReadKind.TheVariants as kinds
-use Rattle.script_grammar.specs.declared.script.Word.{Word}
-use Rattle.script_grammar.specs.Trees.{command_word}
 
 abbrev pub usage_line : List ℕ
 usage_line = codes "usage: lstd solve [--workers W] [--cert PATH] | lstd check | lstd bench K [--workers W] [--cert PATH]\n"
 
 abbrev pub too_long_line : List ℕ
 too_long_line = codes "input too long\n"
-
--- a command's word that isn't built
-abbrev pub not_built_line : Word → List ℕ
-not_built_line word = codes "not built: " ++ command_word word ++ codes "\n"
 
 -- ---- refusals
 -- what must stand at the place

@@ -1,19 +1,17 @@
 // The blocks that answer the commands of a script.
-ghost use Rattle.std.specs.Prelude.{◌≡◌, All, IfOk, length, string_bytes, if◌then◌else◌};
-ghost use Rattle.std.specs.Str.{IsAscii};
+ghost use Rattle.std.specs.Prelude.{◌≡◌, All, IfOk, string_bytes, if◌then◌else◌};
 ghost use Rattle.std.specs.Bool.{OnTrue, OnFalse};
 ghost use Rattle.sparse_poly.specs.Ideal.{Fits};
 ghost use Rattle.ring_reader.specs.Coherent.{IsCoherent, BelongsTo};
-ghost use Rattle.local_std.specs.Built.{IsBuilt, AllBuilt};
 ghost use Rattle.text_out.specs.Answers.{IsInRing};
-ghost use Rattle.text_out.specs.Block.{IsIdeal, characteristic_of};
 ghost use Rattle.local_std.specs.Solved.{IsSolved};
 ghost use Rattle.local_std.specs.Answer.{problem_of, IsAnswerOf, IsBlock, IsAnswer, AllFit, SomeIsSmall};
 
 use crate::answer::{answer_of, is_fitting};
 use crate::outcome::Status;
+use crate::question::question_of;
 use crate::solved::{Solved, answer_among};
-use ring_reader::{Command, Script, Subject};
+use ring_reader::{Command, Script};
 use std::alloc::{AllocError, Global};
 use text_out::{Answer, block_text};
 
@@ -40,7 +38,6 @@ impl Blocks {
 /// The blocks of all commands, in order. A problem that several commands have is solved once.
 pub fn blocks_of(alloc: Global, script: &Script) -> Result<Blocks, AllocError>
     requires coherent { IsCoherent script.now }
-    requires built { AllBuilt script.now.commands }
     ensures text { IfOk result (λ b. IsAnswer script.now (string_bytes b.text)) }
     ensures fits { IfOk result (λ b. OnTrue b.fits (AllFit script.now script.now.commands)) }
     ensures small { IfOk result (λ b. OnFalse b.fits (SomeIsSmall script.now script.now.commands)) }
@@ -65,27 +62,25 @@ fn block_of<'a>(
     command: &'a Command,
     solved: &mut Vec<Solved<'a>>,
 ) -> Result<Blocks, AllocError>
+    requires coherent { IsCoherent script.now }
     requires belongs { BelongsTo script.now command.now }
-    requires built { IsBuilt command.now.word }
     requires solved { All IsSolved solved.old.items }
     ensures text { IfOk result (λ b. IsBlock script.now index command.now (string_bytes b.text)) }
     ensures fits { IfOk result (λ b. OnTrue b.fits (Fits (problem_of script.now command.now))) }
     ensures small { IfOk result (λ b. OnFalse b.fits (Fits (problem_of script.now command.now) → ⊥)) }
     ensures solved { IfOk result (λ b. All IsSolved solved.new.items) }
 {
-    let Subject::Ideal(problem) = &command.subject else {
-        unreachable!()
-    };
-    if let Some(answer) = answer_among(solved, problem) {
+    let question = question_of(alloc, script, command)?;
+    if let Some(answer) = answer_among(solved, question.problem()) {
         return block_with(alloc, script, index, command, answer);
     }
-    let answer = answer_of(alloc, problem)?;
+    let answer = answer_of(alloc, question.problem())?;
     let block = block_with(alloc, script, index, command, &answer)?;
-    solved.push(Solved { problem, answer })?;
+    solved.push(Solved { question, answer })?;
     Ok(block)
 }
 
-/// The block of a command on an ideal whose problem has this answer.
+/// The block of a command whose problem has this answer.
 fn block_with(
     alloc: Global,
     script: &Script,
@@ -93,10 +88,8 @@ fn block_with(
     command: &Command,
     answer: &Answer,
 ) -> Result<Blocks, AllocError>
-    requires built { IsBuilt command.now.word }
-    requires subject { IsIdeal command.now.subject }
-    requires name { IsAscii command.now.name }
-    requires ring { IsInRing (characteristic_of command.now.subject) (length script.now.names) answer.now }
+    requires belongs { BelongsTo script.now command.now }
+    requires ring { IsInRing (problem_of script.now command.now).p (problem_of script.now command.now).n answer.now }
     requires value { IsAnswerOf (problem_of script.now command.now) answer.now }
     ensures text { IfOk result (λ b. IsBlock script.now index command.now (string_bytes b.text)) }
     ensures fits { IfOk result (λ b. OnTrue b.fits (Fits (problem_of script.now command.now))) }

@@ -9,12 +9,12 @@ mod block;
 mod gate;
 pub mod laws;
 mod outcome;
+mod question;
 mod refusal;
 mod reply;
 mod same;
 mod solved;
 mod top;
-mod unbuilt;
 mod words;
 
 pub use gate::{Gate, OpenGate};

@@ -7,7 +7,6 @@ ghost use Rattle.local_std.specs.View.{status_of, text_of};
 use crate::block::{Blocks, blocks_of};
 use crate::outcome::Status;
 use crate::refusal::{Line, refusal_line};
-use crate::unbuilt::{first_unbuilt, unbuilt_line};
 use ring_reader::{ReadError, read_script};
 use std::alloc::{AllocError, Global};
 
@@ -54,8 +53,5 @@ pub fn reply_to(alloc: Global, bytes: &[u8]) -> Result<Reply, AllocError>
             return Ok(Reply::Unanswered(refusal_line(line, column, kind)));
         }
     };
-    if let Some(word) = first_unbuilt(&script.commands) {
-        return Ok(Reply::Unanswered(unbuilt_line(word)));
-    }
     Ok(Reply::Answered(blocks_of(alloc, &script)?))
 }

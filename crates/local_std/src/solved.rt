@@ -2,16 +2,17 @@
 ghost use Rattle.std.specs.Prelude.{◌≡◌, All, IfSome, IfNone};
 ghost use Rattle.text_out.specs.Answers.{IsInRing};
 ghost use Rattle.local_std.specs.Answer.{IsAnswerOf};
-ghost use Rattle.local_std.specs.Solved.{IsSolved};
+ghost use Rattle.local_std.specs.Solved.{IsSolved, problem_asked};
 
+use crate::question::Question;
 use crate::same::is_same_problem;
 use sparse_poly::Problem;
 use text_out::Answer;
 
-/// A problem, and its answer.
+/// A question, and the answer of its problem.
 #[derive(Drop)]
 pub struct Solved<'a> {
-    pub problem: &'a Problem,
+    pub question: Question<'a>,
     pub answer: Answer,
 }
 
@@ -19,11 +20,11 @@ pub struct Solved<'a> {
 pub fn answer_among<'b>(solved: &'b [Solved<'_>], problem: &Problem) -> Option<&'b Answer>
     requires { All IsSolved solved.now }
     ensures value { IfSome result (λ a. IsAnswerOf problem.now a.now) }
-    ensures none { IfNone result (All (λ one. one.problem.now ≡ problem.now → ⊥) solved.now) }
+    ensures none { IfNone result (All (λ one. problem_asked one.question ≡ problem.now → ⊥) solved.now) }
     ensures ring { IfSome result (λ a. IsInRing problem.now.p problem.now.n a.now) }
 {
     for one in solved {
-        if is_same_problem(one.problem, problem) {
+        if is_same_problem(one.question.problem(), problem) {
             return Some(&one.answer);
         }
     }

@@ -1,6 +1,7 @@
 -- What holds of each script that is read: its commands speak of one ring and one degree, within the limits.
 use Rattle.std.specs.Prelude.{◌≡◌, ℕ, ◌+◌, ◌≤◌, true, false, Bool, length, All}
-use Rattle.local_order.specs.Limits.{max_degree}
+use Rattle.local_order.specs.Limits.{max_degree, max_monomials}
+use Rattle.local_order.specs.Count.{monomial_count}
 use Rattle.script_grammar.specs.Limits.{max_commands}
 use Rattle.std.specs.Str.{IsAscii}
 use Rattle.prime_field.specs.Prime.{InTable}
@@ -30,6 +31,7 @@ pub record IsCoherent (s : Script) : Type 0 where
   pub letters : AreLetters s.names
   pub some : 1 ≤ s.d
   pub low : s.d ≤ max_degree
+  pub monomials : monomial_count (length s.names) s.d ≤ max_monomials
   pub asked : 1 ≤ length s.commands
   pub few : length s.commands ≤ max_commands
   pub belong : All (BelongsTo s) s.commands

@@ -3,8 +3,8 @@
 ghost use Rattle.std.specs.Prelude.{◌≡◌, [], false, length, All, IfOk};
 ghost use Rattle.std.specs.Str.{IsAscii};
 ghost use Rattle.script_grammar.specs.Statements.{is_on_poly};
-ghost use Rattle.text_out.specs.Answers.{IsModulo};
-ghost use Rattle.text_out.specs.Block.{IsIdeal, characteristic_of};
+ghost use Rattle.text_out.specs.declared.answer.Answer.{Answer as Answered};
+ghost use Rattle.text_out.specs.Answers.{IsAnswerFor, IsInRing, IsModulo};
 
 use crate::build::{Exponents, Written, field, mono, poly};
 use prime_field::Field;
@@ -55,10 +55,9 @@ fn problem(alloc: Global) -> Result<Problem, Fail>
 
 /// The command of that word on i.
 fn command(alloc: Global, word: Word) -> Result<Command, Fail>
-    ensures word { IfOk result (λ c. c.word ≡ word) }
+    requires { is_on_poly word ≡ false }
     ensures name { IfOk result (λ c. IsAscii c.name) }
-    ensures subject { IfOk result (λ c. IsIdeal c.subject) }
-    ensures field { IfOk result (λ c. characteristic_of c.subject ≡ 32003) }
+    ensures answer { IfOk result (λ c. (a : Answered) → IsInRing 32003 2 a → IsAnswerFor 2 c.word c.subject a) }
 {
     Ok(Command {
         word,

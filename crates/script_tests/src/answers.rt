@@ -1,7 +1,7 @@
 //! Worked scripts and faults, through the top call in memory.
 
-use io_edge::{MemSink, MemSource};
-use local_std::{OpenGate, Status, run_lstd};
+use crate::run::{is_answered, run};
+use local_std::Status;
 use std::alloc::Global;
 use std::test::Fail;
 use std::thread::Threads;
@@ -17,7 +17,7 @@ struct Row {
 const JACOBIAN: &[u8] =
     b"1 std i\n_[1]=x^2*y-15999*y^4\n_[2]=x*y^2-15999*x^4\n_[3]=x^5-y^5\n_[4]=y^6\ncorner y^5\ndim 11\n";
 
-const ROWS: [Row; 40] = [
+const ROWS: [Row; 41] = [
     // a fat point whose corner is no power of a variable
     Row {
         script: b"ring r=32003,(x,y),ds;\nnoether=x^5;\nideal i=x3,x2y,y3; std(i);\n",
@@ -139,16 +139,22 @@ const ROWS: [Row; 40] = [
         status: Status::TooSmall,
         answer: b"1 std i\nD 2 is too small: y^2\n2 std j\n_[1]=x\n_[2]=y\ncorner 1\ndim 1\n",
     },
-    // commands that are not built, also behind a degree that is too small
+    // x^3+y^4 has Milnor number 6, but modulo 3 the first partial derivative is nothing
     Row {
-        script: b"ring r=32003,(x,y),ds;\nnoether=x^5;\npoly f=x; milnor(f);\n",
-        status: Status::Input,
-        answer: b"not built: milnor\n",
+        script: b"ring r=32003,(x,y),ds;\nnoether=x^5;\npoly f=x3+y4; milnor(f);\n",
+        status: Status::Fits,
+        answer: b"1 milnor f\nmilnor 6\n",
     },
     Row {
-        script: b"ring r=32003,(x,y),ds;\nnoether=x^5;\npoly f=x; ideal i=f; kbase(i); tjurina(f); milnor(f);\n",
-        status: Status::Input,
-        answer: b"not built: tjurina\n",
+        script: b"ring r=3,(x,y),ds;\nnoether=x^5;\npoly f=x3+y4; milnor(f);\n",
+        status: Status::TooSmall,
+        answer: b"1 milnor f\nD 5 is too small: x^5\n",
+    },
+    // a degree that is enough for the Tjurina number and not for the Milnor number
+    Row {
+        script: b"ring r=32003,(x,y),ds;\nnoether=y^5;\npoly f=x5+x2y2+y5; tjurina(f); milnor(f);\n",
+        status: Status::TooSmall,
+        answer: b"1 tjurina f\ntjurina 10\n2 milnor f\nD 5 is too small: y^5\n",
     },
     // refusals: the end of the input
     Row {
@@ -243,37 +249,6 @@ const ROWS: [Row; 40] = [
     },
 ];
 
-/// Runs the words over the script, in pieces of 10 bytes, into a sink that takes 7 bytes a write.
-fn run<R: Threads + Sync>(
-    rt: &R,
-    alloc: Global,
-    words: &[&str],
-    script: &[u8],
-    failing_reads: &[u64],
-    room: usize,
-) -> Result<(Status, MemSink), Fail> {
-    let mut given = Vec::new(alloc);
-    for word in words {
-        given.push(String::from_str(alloc, *word)?)?;
-    }
-    let mut source = MemSource::new(script.to_vec(alloc)?, 10, failing_reads.to_vec(alloc)?);
-    let mut out = MemSink::new(alloc, room, 7, Vec::new(alloc))?;
-    let mut cert = MemSink::new(alloc, 0, 1, Vec::new(alloc))?;
-    let status = run_lstd(
-        rt,
-        alloc,
-        &given,
-        &mut source,
-        &mut out,
-        &mut cert,
-        &OpenGate,
-    );
-    if !cert.bytes().is_empty() {
-        return Err(Fail::from("a certificate was written"));
-    }
-    Ok((status, out))
-}
-
 #[test]
 fn worked_scripts(rt: HostRuntime) -> Result<(), Fail> {
     for row in &ROWS {
@@ -314,18 +289,6 @@ fn faults(rt: HostRuntime) -> Result<(), Fail> {
     let (status, out) = run(&rt, rt.alloc(), &["solve"], script, &[], 7)?;
     assert!(rt; status == Status::WriteFault && out.bytes() == b"1 std i".as_slice());
     Ok(())
-}
-
-/// Whether the script is answered by this status and text.
-fn is_answered<R: Threads + Sync>(
-    rt: &R,
-    alloc: Global,
-    script: &[u8],
-    status: Status,
-    answer: &[u8],
-) -> Result<bool, Fail> {
-    let (found, out) = run(rt, alloc, &["solve"], script, &[], 1000)?;
-    Ok(found == status && out.bytes() == answer)
 }
 
 /// A script that has a piece so many times.

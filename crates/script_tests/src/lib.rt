@@ -7,3 +7,7 @@
 mod answers;
 #[cfg(test)]
 mod reading;
+#[cfg(test)]
+mod run;
+#[cfg(test)]
+mod singularities;

@@ -1,5 +1,5 @@
 use Rattle.std.proofs.Common.{string_bytes}
-use Rattle.local_std.proofs.Dues.{refused, not_built, solved}
+use Rattle.local_std.proofs.Dues.{refused, solved}
 use Rattle.local_std.proofs.reply.reply_to.Goals as goal
 
 pub returns-in-Err-At : goal.returns-in-Err-At
@@ -9,14 +9,9 @@ returns-in-Err-At c =
     (rw c.in-Err-At.field-0-is at c.in-Err-At.ensures.exact)
     (rw c.in-Err-At.field-0-is at c.in-Err-At.ensures.only)
 
-pub returns-in-Some : goal.returns-in-Some
-returns-in-Some c =
-    let found = c.in-Ok.ensures.found in
-    not_built c.args.bytes.now c.requires found.0 found.1 c.in-Ok.script found.2 c.in-Some.word c.in-Some.ensures c.unbuilt_line.result.bytes c.unbuilt_line.ensures
-
 pub returns : goal.returns
 returns c =
     let found = c.in-Ok.ensures.found in
     let done = c.in_ok-blocks_of in
-    solved c.args.bytes.now c.requires found.0 found.1 c.in-Ok.script found.2 c.in_default.ensures done.field-0.fits done.ensures.fits done.ensures.small
+    solved c.args.bytes.now c.requires found.0 found.1 c.in-Ok.script found.2 done.field-0.fits done.ensures.fits done.ensures.small
     (string_bytes done.field-0.text) done.ensures.text

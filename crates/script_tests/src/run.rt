@@ -1,0 +1,50 @@
+//! Runs of the top call in memory.
+
+use io_edge::{MemSink, MemSource};
+use local_std::{OpenGate, Status, run_lstd};
+use std::alloc::Global;
+use std::test::Fail;
+use std::thread::Threads;
+
+/// Runs the words over the script, in pieces of 10 bytes, into a sink that takes 7 bytes a write.
+pub(crate) fn run<R: Threads + Sync>(
+    rt: &R,
+    alloc: Global,
+    words: &[&str],
+    script: &[u8],
+    failing_reads: &[u64],
+    room: usize,
+) -> Result<(Status, MemSink), Fail> {
+    let mut given = Vec::new(alloc);
+    for word in words {
+        given.push(String::from_str(alloc, *word)?)?;
+    }
+    let mut source = MemSource::new(script.to_vec(alloc)?, 10, failing_reads.to_vec(alloc)?);
+    let mut out = MemSink::new(alloc, room, 7, Vec::new(alloc))?;
+    let mut cert = MemSink::new(alloc, 0, 1, Vec::new(alloc))?;
+    let status = run_lstd(
+        rt,
+        alloc,
+        &given,
+        &mut source,
+        &mut out,
+        &mut cert,
+        &OpenGate,
+    );
+    if !cert.bytes().is_empty() {
+        return Err(Fail::from("a certificate was written"));
+    }
+    Ok((status, out))
+}
+
+/// Whether the script is answered by this status and text.
+pub(crate) fn is_answered<R: Threads + Sync>(
+    rt: &R,
+    alloc: Global,
+    script: &[u8],
+    status: Status,
+    answer: &[u8],
+) -> Result<bool, Fail> {
+    let (found, out) = run(rt, alloc, &["solve"], script, &[], 1000)?;
+    Ok(found == status && out.bytes() == answer)
+}
