@@ -5,6 +5,7 @@ use Rattle.std.specs.List.{AllByRecursion}
 use Rattle.std.proofs.lemmas.List.{length-map}
 use Rattle.sparse_poly.specs.Poly.{Poly, in_variables}
 use Rattle.sparse_poly.specs.Ideal.{Problem}
+use Rattle.sparse_poly.specs.Shape.{shape_of}
 use Rattle.entry_code.specs.declared.term.Term.{Term}
 use Rattle.entry_code.specs.Entry.{Entry as RunEntry}
 use Rattle.text_out.specs.declared.answer.Answer.{Answer}
@@ -22,10 +23,10 @@ gens_back n [] = refl
 gens_back n (f ∷ fs) = ap (λ (z : List Poly). f ∷ z) (gens_back n fs)
 
 -- entries are given back
-entries_back : (P : Problem) → 1 ≤ P.n → (es : List RunEntry) → AllByRecursion (IsRunEntry P) es → map (run_entry P) (map (entry_of P) es) ≡ es
+entries_back : (P : Problem) → 1 ≤ P.n → (es : List RunEntry) → AllByRecursion (IsRunEntry P) es → map (run_entry (shape_of P)) (map (entry_of P) es) ≡ es
 entries_back P some [] h = refl
 entries_back P some (e ∷ es) h =
-    ap (λ (z : List Term). record { item = e.item; reads = e.reads; terms = z } ∷ map (run_entry P) (map (entry_of P) es)) (terms_again P some e.terms h.0.terms)
+    ap (λ (z : List Term). record { item = e.item; reads = e.reads; terms = z } ∷ map (run_entry (shape_of P)) (map (entry_of P) es)) (terms_again P some e.terms h.0.terms)
     ∙ ap (λ (z : List RunEntry). e ∷ z) (entries_back P some es h.1)
 
 -- the problem is given back
@@ -37,7 +38,7 @@ problem_again x h =
 -- what is certified is given back by its block
 certified_again : (x : Certified) → IsCertified x → certified_of (block_of x) ≡ x
 certified_again x h =
-    ap (λ (z : Problem). record { letters = x.letters; problem = z; entries = map (run_entry z) (map (entry_of x.problem) x.entries); answer = answer_in (verdict_of x.answer x.corner); corner = corner_in (verdict_of x.answer x.corner) }) (problem_again x h)
+    ap (λ (z : Problem). record { letters = x.letters; problem = z; entries = map (run_entry (shape_of z)) (map (entry_of x.problem) x.entries); answer = answer_in (verdict_of x.answer x.corner); corner = corner_in (verdict_of x.answer x.corner) }) (problem_again x h)
     ∙ ap (λ (z : List RunEntry). record { letters = x.letters; problem = x.problem; entries = z; answer = answer_in (verdict_of x.answer x.corner); corner = corner_in (verdict_of x.answer x.corner) }) (entries_back x.problem h.problem.some x.entries h.entries)
     ∙ ap (λ (z : Answer). record { letters = x.letters; problem = x.problem; entries = x.entries; answer = z; corner = corner_in (verdict_of x.answer x.corner) }) (answer_again x.answer x.corner h.corner).0
     ∙ ap (λ z. record { letters = x.letters; problem = x.problem; entries = x.entries; answer = x.answer; corner = z }) (answer_again x.answer x.corner h.corner).1

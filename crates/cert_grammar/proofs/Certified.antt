@@ -53,7 +53,7 @@ low_by_rank P some (t ∷ ts) h zero z i = (rank-mono_of_rank (shape_of P) t.ran
 low_by_rank P some (t ∷ ts) h (suc k) z i = low_by_rank P some ts h.4 k z (omega (arith, i))
 
 -- those of a canonical polynomial of low degree are terms by rank
-are_terms : (P : Problem) (f : Poly) → IsCanonical P.p P.n f → HasDegreeAtMost P.d f → AreTerms P (terms_by_rank P f)
+are_terms : (P : Problem) (f : Poly) → IsCanonical P.p P.n f → HasDegreeAtMost P.d f → AreTerms P (terms_by_rank (shape_of P) f)
 are_terms P [] h low = tt
 are_terms P (t ∷ f) h low =
     (rank_low (shape_of P) t.mono h.0 here, h.1, h.2, before f h.3, are_terms P f h.4 (λ k z i. low (suc k) z (omega (arith, i))))
@@ -61,23 +61,23 @@ are_terms P (t ∷ f) h low =
     here : degree t.mono ≤ P.d
     here = low 0 t (omega arith)
 
-    before : (f : Poly) → IsAboveFirst t.mono f → IsBefore (record { rank = rank_of (shape_of P) t.mono; coef = t.coef }) (terms_by_rank P f)
+    before : (f : Poly) → IsAboveFirst t.mono f → IsBefore (record { rank = rank_of (shape_of P) t.mono; coef = t.coef }) (terms_by_rank (shape_of P) f)
     before [] a = tt
     before (u ∷ f) a = rank_above (shape_of P) t.mono u.mono h.0 here a
 
 -- they give the polynomial back
-poly_again : (P : Problem) (f : Poly) → IsCanonical P.p P.n f → HasDegreeAtMost P.d f → poly_by_rank P (terms_by_rank P f) ≡ f
+poly_again : (P : Problem) (f : Poly) → IsCanonical P.p P.n f → HasDegreeAtMost P.d f → poly_by_rank P (terms_by_rank (shape_of P) f) ≡ f
 poly_again P [] h low = refl
 poly_again P (t ∷ f) h low =
-    ap (λ (m : List ℕ). record { mono = m; coef = t.coef } ∷ poly_by_rank P (terms_by_rank P f))
+    ap (λ (m : List ℕ). record { mono = m; coef = t.coef } ∷ poly_by_rank P (terms_by_rank (shape_of P) f))
     (mono_of_rank-is (shape_of P) t.mono (rank_of (shape_of P) t.mono) (record { in_ring = h.0; low = low 0 t (omega arith); rank = refl }))
     ∙ ap (λ (z : Poly). t ∷ z) (poly_again P f h.4 (λ k z i. low (suc k) z (omega (arith, i))))
 
 -- and terms by rank are given back by their polynomial
-pub terms_again : (P : Problem) → 1 ≤ P.n → (ts : List Term) → AreTerms P ts → terms_by_rank P (poly_by_rank P ts) ≡ ts
+pub terms_again : (P : Problem) → 1 ≤ P.n → (ts : List Term) → AreTerms P ts → terms_by_rank (shape_of P) (poly_by_rank P ts) ≡ ts
 terms_again P some [] h = refl
 terms_again P some (t ∷ ts) h =
-    ap (λ r. record { rank = r; coef = t.coef } ∷ terms_by_rank P (poly_by_rank P ts)) (rank-mono_of_rank (shape_of P) t.rank some h.0).rank
+    ap (λ r. record { rank = r; coef = t.coef } ∷ terms_by_rank (shape_of P) (poly_by_rank P ts)) (rank-mono_of_rank (shape_of P) t.rank some h.0).rank
     ∙ ap (λ (z : List Term). t ∷ z) (terms_again P some ts h.4)
 
 -- a polynomial has terms where its terms by rank are some
@@ -86,7 +86,7 @@ some_poly P [] s = absurd (omega arith)
 some_poly P (t ∷ ts) s = λ e. absurd (cc)
 
 -- A polynomial that isn't 0 has a term.
-some_terms : (P : Problem) (f : Poly) → f ≢ [] → 1 ≤ length (terms_by_rank P f)
+some_terms : (P : Problem) (f : Poly) → f ≢ [] → 1 ≤ length (terms_by_rank (shape_of P) f)
 some_terms P [] s = absurd (s refl)
 some_terms P (t ∷ f) s = omega arith
 
@@ -199,11 +199,11 @@ gens_again r (f ∷ fs) h =
 
 -- the entries have their terms by rank
 entries_in : (r : Ring) (P : Problem) → P.p ≡ r.p → P.n ≡ length r.letters → P.d ≡ r.d → (es : List Entry) → AllByRecursion (IsEntry r) es →
-    AllByRecursion (IsRunEntry P) (map (run_entry P) es) × (map (entry_of P) (map (run_entry P) es) ≡ es)
+    AllByRecursion (IsRunEntry P) (map (run_entry (shape_of P)) es) × (map (entry_of P) (map (run_entry (shape_of P)) es) ≡ es)
 entries_in r P p n d [] h = (tt, refl)
 entries_in r P p n d (e ∷ es) h = (
   (one, (entries_in r P p n d es h.1).0),
-  ap (λ (z : Polynomial). record { item = e.item; reads = e.reads; poly = z } ∷ map (entry_of P) (map (run_entry P) es))
+  ap (λ (z : Polynomial). record { item = e.item; reads = e.reads; poly = z } ∷ map (entry_of P) (map (run_entry (shape_of P)) es))
       (ap (in_variables P.n) (poly_again P e.poly.terms canonical low) ∙ ap (λ k. in_variables k e.poly.terms) (n ∙ sym h.0.poly.poly.variables))
       ∙ ap (λ (z : List Entry). e ∷ z) (entries_in r P p n d es h.1).1,
 )
@@ -214,11 +214,11 @@ entries_in r P p n d (e ∷ es) h = (
     low : HasDegreeAtMost P.d e.poly.terms
     low = subst (λ k. HasDegreeAtMost k e.poly.terms) (sym d) h.0.poly.poly.low
 
-    one : IsRunEntry P (run_entry P e)
+    one : IsRunEntry P (run_entry (shape_of P) e)
     one = record { item = h.0.item; some_reads = h.0.some; reads = h.0.reads; some_terms = some_terms P e.poly.terms h.0.poly.some; terms = are_terms P e.poly.terms canonical low }
 
 -- the problem of a block is one
-problem_is : (y : Block) → IsBlock y → IsProblem (problem_in y)
+pub problem_is : (y : Block) → IsBlock y → IsProblem (problem_in y)
 problem_is y h =
     let are : AreLetters y.ring.letters = letters_are y.ring.letters h.ring.letters in
     let q : (nat_le 1 y.ring.d ≡ true) × ((nat_le y.ring.d max_degree && nat_le (count_by_products (length y.ring.letters) y.ring.d) max_monomials) ≡ true) = and_true (nat_le 1 y.ring.d) _ h.ring.d in
@@ -241,7 +241,7 @@ certified_is y h = record {
   variables = refl;
   letters = letters_are y.ring.letters h.ring.letters;
   problem = problem_is y h;
-  few_entries = subst (λ k. k ≤ max_monomials) (sym (length-map y.entries (run_entry (problem_in y)))) (leb-true (length y.entries) max_monomials h.few_entries);
+  few_entries = subst (λ k. k ≤ max_monomials) (sym (length-map y.entries (run_entry (shape_of (problem_in y))))) (leb-true (length y.entries) max_monomials h.few_entries);
   entries = (entries_in y.ring (problem_in y) refl refl refl y.entries h.entries).0;
   verdict = subst (IsVerdict y.ring) (sym (verdict_again y.verdict)) h.verdict;
   corner = corner_named y.verdict;
@@ -250,6 +250,6 @@ certified_is y h = record {
 -- and its block is this one
 pub block_again : (y : Block) → IsBlock y → block_of (certified_of y) ≡ y
 block_again y h =
-    ap (λ (z : List Polynomial). record { ring = y.ring; gens = z; entries = map (entry_of (problem_in y)) (map (run_entry (problem_in y)) y.entries); verdict = verdict_of (answer_in y.verdict) (corner_in y.verdict) }) (gens_again y.ring y.gens h.gens)
+    ap (λ (z : List Polynomial). record { ring = y.ring; gens = z; entries = map (entry_of (problem_in y)) (map (run_entry (shape_of (problem_in y))) y.entries); verdict = verdict_of (answer_in y.verdict) (corner_in y.verdict) }) (gens_again y.ring y.gens h.gens)
     ∙ ap (λ (z : List Entry). record { ring = y.ring; gens = y.gens; entries = z; verdict = verdict_of (answer_in y.verdict) (corner_in y.verdict) }) (entries_in y.ring (problem_in y) refl refl refl y.entries h.entries).1
     ∙ ap (λ (z : Verdict). record { ring = y.ring; gens = y.gens; entries = y.entries; verdict = z }) (verdict_again y.verdict)

@@ -2,7 +2,7 @@
 use Rattle.std.specs.Prelude.{◌≡◌, ℕ, ◌<◌, ◌≤◌, List, [], ◌∷◌, length, map, Option, None}
 use Rattle.std.specs.List.{AllByRecursion}
 use Rattle.local_order.specs.Limits.{max_monomials}
-use Rattle.local_order.specs.Shape.{count}
+use Rattle.local_order.specs.Shape.{Shape, count}
 use Rattle.mono_rank.specs.Rank.{rank_of, mono_of_rank}
 use Rattle.sparse_poly.specs.Poly.{Poly, in_variables}
 use Rattle.sparse_poly.specs.Ideal.{Problem, IsProblem}
@@ -55,16 +55,16 @@ block_of x = record {
 
 -- ---- what a block certifies
 -- the terms of a polynomial by rank
-abbrev pub terms_by_rank : Problem → Poly → List Term
-terms_by_rank P [] = []
-terms_by_rank P (t ∷ f) = record { rank = rank_of (shape_of P) t.mono; coef = t.coef } ∷ terms_by_rank P f
+abbrev pub terms_by_rank : Shape → Poly → List Term
+terms_by_rank T [] = []
+terms_by_rank T (t ∷ f) = record { rank = rank_of T t.mono; coef = t.coef } ∷ terms_by_rank T f
 
 -- the problem of a block
 abbrev pub problem_in : Block → Problem
 problem_in y = record { p = y.ring.p; n = length y.ring.letters; d = y.ring.d; gens = map (λ f. f.terms) y.gens }
 
-abbrev pub run_entry : Problem → Entry → RunEntry
-run_entry P x = record { item = x.item; reads = x.reads; terms = terms_by_rank P x.poly.terms }
+abbrev pub run_entry : Shape → Entry → RunEntry
+run_entry T x = record { item = x.item; reads = x.reads; terms = terms_by_rank T x.poly.terms }
 
 abbrev pub answer_in : Verdict → Answer
 answer_in (Fits f) = answers.Fits f.basis f.stair
@@ -76,7 +76,7 @@ corner_in (TooSmall m) = None
 
 -- what a block certifies
 abbrev pub certified_of : Block → Certified
-certified_of y = record { letters = y.ring.letters; problem = problem_in y; entries = map (run_entry (problem_in y)) y.entries; answer = answer_in y.verdict; corner = corner_in y.verdict }
+certified_of y = record { letters = y.ring.letters; problem = problem_in y; entries = map (run_entry (shape_of (problem_in y))) y.entries; answer = answer_in y.verdict; corner = corner_in y.verdict }
 
 -- ---- what is asked
 -- the rank of a term is below those that follow

@@ -35,6 +35,15 @@ impl Fitting {
             stair,
         }
     }
+
+    /// Its parts. It takes no memory.
+    pub fn into_parts(self) -> (Vec<Poly>, Option<Mono>, Vec<Mono>)
+        ensures basis { result.0.items ≡ self.basis }
+        ensures corner { result.1 ≡ self.corner }
+        ensures stair { result.2.items ≡ self.stair }
+    {
+        (self.basis, self.corner, self.stair)
+    }
 }
 
 /// Whether the degree fits.
@@ -73,28 +82,14 @@ impl Block {
             verdict,
         }
     }
-}
 
-/// A certificate. A contract sees the list of its blocks.
-#[derive(Drop)]
-pub struct Cert {
-    blocks: Vec<Block>,
-}
-
-impl Model for Cert {
-    ghost use Rattle.std.specs.Prelude.{List};
-    ghost use Rattle.cert_grammar.specs.Blocks.{Block as BlockValue};
-
-    ghost Value = { List BlockValue };
-
-    ghost view = { λ c. c.blocks.items };
-}
-
-impl Cert {
-    /// The certificate of these blocks. It takes no memory.
-    pub fn new(blocks: Vec<Block>) -> Cert
-        ensures { result ≡ blocks.items }
+    /// Its parts. It takes no memory.
+    pub fn into_parts(self) -> (Ring, Vec<Poly>, Vec<Entry>, Verdict)
+        ensures ring { result.0 ≡ self.ring }
+        ensures gens { result.1.items ≡ self.gens }
+        ensures entries { result.2.items ≡ self.entries }
+        ensures verdict { result.3 ≡ self.verdict }
     {
-        Cert { blocks }
+        (self.ring, self.gens, self.entries, self.verdict)
     }
 }

@@ -36,4 +36,25 @@ impl Entry {
     {
         Entry { item, reads, poly }
     }
+
+    /// Where it comes from.
+    pub fn item(&self) -> Item
+        ensures { result ≡ self.now.item }
+    {
+        self.item
+    }
+
+    /// Its readings.
+    pub fn reads(&self) -> &[Reading]
+        ensures { result.now ≡ self.now.reads }
+    {
+        &self.reads
+    }
+
+    /// Its polynomial.
+    pub fn poly(&self) -> &Poly
+        ensures { result.now ≡ self.now.poly }
+    {
+        &self.poly
+    }
 }

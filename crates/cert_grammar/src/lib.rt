@@ -9,6 +9,6 @@ mod entry;
 pub mod laws;
 mod ring;
 
-pub use block::{Block, Cert, Fitting, Verdict};
+pub use block::{Block, Fitting, Verdict};
 pub use entry::{Entry, Step};
 pub use ring::Ring;

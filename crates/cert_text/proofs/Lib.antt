@@ -7,3 +7,4 @@ pub mod Loops
 pub mod Writing
 pub mod Finish
 pub mod RingReads
+pub mod Certifying

@@ -3,3 +3,4 @@ pub mod Cuts
 pub mod Gives
 pub mod Answers
 pub mod Writes
+pub mod Ranked

@@ -1,14 +1,17 @@
 //! The blocks of a certificate.
 
-ghost use Rattle.std.specs.Prelude.{◌≡◌, ◌∷◌, [], codes};
+ghost use Rattle.std.specs.Prelude.{◌≡◌, ◌∷◌, [], map, codes, IfOk};
+ghost use Rattle.std.specs.List.{AllByRecursion};
+ghost use Rattle.cert_grammar.specs.Certified.{IsCertified, block_of};
 ghost use Rattle.cert_grammar.specs.Cert.{numbered};
 ghost use Rattle.cert_text.specs.Gives.{Gives, next_is, with_items};
-ghost use Rattle.cert_grammar.specs.Reading.{blocks_at, cert_at};
+ghost use Rattle.cert_grammar.specs.Reading.{block_at, blocks_at, cert_at};
 
+use crate::certificate::{Block, Cert};
+use crate::certify::certify;
 use crate::lines::Lines;
 use crate::members::is_numbered;
 use crate::stop::Stop;
-use cert_grammar::{Block, Cert};
 use std::alloc::Global;
 
 impl<'a> Lines<'a> {
@@ -22,9 +25,21 @@ impl<'a> Lines<'a> {
         is_numbered(line, b"done", b)
     }
 
+    /// Takes the block of that number.
+    fn block(&mut self, alloc: Global, b: u32) -> Result<Block, Stop>
+        ensures read { Gives (λ x. block_of x) result self.new (block_at b self.old) }
+        ensures certified { IfOk result IsCertified }
+    {
+        let lines = self.block_lines(alloc, b)?;
+        let block = certify(alloc, lines)?;
+        Ok(block)
+    }
+
     /// Takes the blocks behind the first one, and the last line. Nothing is reserved for them.
-    pub(crate) fn blocks(&mut self, alloc: Global, first: Block) -> Result<Vec<Block>, Stop>
-        ensures { Gives (λ v. v.items) result self.new (with_items (first ∷ []) (blocks_at 63 1 self.old)) }
+    fn blocks(&mut self, alloc: Global, first: Block) -> Result<Vec<Block>, Stop>
+        requires { IsCertified first }
+        ensures read { Gives (λ v. map block_of v.items) result self.new (with_items (block_of first ∷ []) (blocks_at 63 1 self.old)) }
+        ensures certified { IfOk result (λ v. AllByRecursion IsCertified v.items) }
     {
         let mut blocks = Vec::new(alloc);
         blocks.push(first)?;
@@ -42,7 +57,8 @@ impl<'a> Lines<'a> {
     /// Takes a certificate.
     #[tactic(auto, using(crate::proofs::BlockReads::cert_by))]
     pub(crate) fn cert(&mut self, alloc: Global) -> Result<Cert, Stop>
-        ensures { Gives (λ c. c) result self.new (cert_at self.old) }
+        ensures read { Gives (λ c. map block_of c) result self.new (cert_at self.old) }
+        ensures certified { IfOk result (λ c. AllByRecursion IsCertified c) }
     {
         self.given(b"lstd-cert", 1)?;
         let first = self.block(alloc, 1)?;

@@ -6,6 +6,8 @@
 #![tactic(auto)]
 
 mod blocks;
+mod certificate;
+mod certify;
 mod error;
 mod heads;
 mod lines;
@@ -18,6 +20,7 @@ mod verdict;
 mod words;
 mod write;
 
+pub use certificate::{Block, Cert};
 pub use error::CertError;
 pub use read::read_cert;
 pub use write::{write_done, write_head, write_reading};

@@ -8,7 +8,7 @@ ghost use Rattle.cert_grammar.specs.Reading.{line_at, vars_of, bytes_of, if_lett
 use crate::lines::Lines;
 use crate::stop::Stop;
 use crate::words::{Words, is_ended, keyword, next, words_in};
-use cert_grammar::{Block, Ring};
+use cert_grammar::{Block as BlockLines, Ring};
 use sparse_poly::Letters;
 use std::alloc::Global;
 
@@ -68,8 +68,8 @@ impl<'a> Lines<'a> {
         Ok(Ring::new(field, letters, d))
     }
 
-    /// Takes the block of that number.
-    pub(crate) fn block(&mut self, alloc: Global, b: u32) -> Result<Block, Stop>
+    /// Takes the lines of the block of that number.
+    pub(crate) fn block_lines(&mut self, alloc: Global, b: u32) -> Result<BlockLines, Stop>
         ensures { Gives (λ x. x) result self.new (block_at b self.old) }
     {
         self.given(b"block", b)?;
@@ -78,6 +78,6 @@ impl<'a> Lines<'a> {
         let entries = self.entries(alloc, &ring)?;
         let verdict = self.verdict(alloc, &ring)?;
         self.given(b"end", b)?;
-        Ok(Block::new(ring, gens, entries, verdict))
+        Ok(BlockLines::new(ring, gens, entries, verdict))
     }
 }
