@@ -35,6 +35,7 @@ pub record IsTermIn (P : Problem) (t : PolyTerm) : Type 0 where
   pub low : degree t.mono ≤ P.d
   pub residue : t.coef < P.p
 
+-- A term of a canonical polynomial has the ring's variables and a residue.
 canonical_term : (P : Problem) (f : Poly) (k : ℕ) (t : PolyTerm) → IsCanonical P.p P.n f → slice_get f k ≡ Some t → (length t.mono ≡ P.n) × (t.coef < P.p)
 canonical_term P [] k t h e = absurd (cc e)
 canonical_term P (u ∷ f) zero t h e = let z : u ≡ t = cc e in (subst (λ (x : PolyTerm). length x.mono ≡ P.n) z h.0, subst (λ (x : PolyTerm). x.coef < P.p) z h.2)

@@ -65,6 +65,7 @@ module _ (P : Problem) (some : 1 ≤ P.n) (T : Shape) (t : HasTable P T) (a b : 
   abbrev pub left : List ℕ
   left = (numbering_of P).mono a
 
+  -- the monomial of the second rank
   abbrev pub right : List ℕ
   right = (numbering_of P).mono b
 
@@ -76,6 +77,7 @@ module _ (P : Problem) (some : 1 ≤ P.n) (T : Shape) (t : HasTable P T) (a b : 
   pub left_ranked : HasRank T left a
   left_ranked = to_table left a (has_rank P a some (omega (arith, al, ranks_count P)))
 
+  -- The second monomial has the second rank.
   pub right_ranked : HasRank T right b
   right_ranked = to_table right b (has_rank P b some (omega (arith, bl, ranks_count P)))
 

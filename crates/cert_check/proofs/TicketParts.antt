@@ -22,5 +22,6 @@ module _ (P : Problem) (entries : List Entry) where
   pub divided_generators : AreDivided P entries → (g : ℕ) → g < length P.gens → IsDivided P entries (Generator g)
   divided_generators h g l = h (Generator g) l (ticket_below _ _ (Generator g) l)
 
+  -- So is each pair of entries.
   pub divided_pairs : AreDivided P entries → (j : ℕ) → j < length entries → (i : ℕ) → i < j → IsDivided P entries (Pair i j)
   divided_pairs h j l i m = h (Pair i j) m (ticket_below _ _ (Pair i j) (m, l))

@@ -59,6 +59,7 @@ ranked_at r T n d [] h k z i = absurd (omega (arith, i))
 ranked_at r T n d (e ∷ es) h zero z i = record { variables = h.0.poly.poly.variables ∙ n; low = subst (λ k. HasDegreeAtMost k e.poly.terms) d h.0.poly.poly.low }
 ranked_at r T n d (e ∷ es) h (suc k) z i = ranked_at r T n d es h.1 k z (omega (arith, i))
 
+-- The terms of each entry of a block have ranks in the block's table.
 pub entries_ranked : (y : Block) (T : Shape) (es : List Entry) → IsBlock y → length y.ring.letters ≡ T.variables → y.ring.d ≡ T.degree → es ≡ y.entries → All (IsRanked T) es
 entries_ranked y T es h n d is = λ k z i. ranked_at y.ring T n d es (subst (AllByRecursion (IsEntry y.ring)) (sym is) h.entries) k z i
 
