@@ -7,6 +7,7 @@ pub mod TicketParts
 pub mod Conditions
 pub mod Faults
 pub mod Right
+pub mod SettledAccepted
 pub mod TermVectors
 pub mod MapTerms
 pub mod Subtracted

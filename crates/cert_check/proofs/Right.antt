@@ -78,7 +78,7 @@ module _ (P : Problem) (h : IsAdmissible P) (entries : List Entry) (legal : Lega
               (lead_is_multiple P h entries legal settled m r k).0 (subst (IsLeadOfIdeal P) same lead)
 
   -- the highest corner is the last monomial of the staircase
-  corner_is_last : (s : List (List ℕ)) → IsStaircase P s → highest_corner P entries ≡ slice_get s (length s - 1)
+  pub corner_is_last : (s : List (List ℕ)) → IsStaircase P s → highest_corner P entries ≡ slice_get s (length s - 1)
   corner_is_last s stair = go (corner P entries) refl
     where
       empty : corner P entries ≡ 0 → (t : List (List ℕ)) → IsStaircase P t → None ≡ slice_get t (length t - 1)

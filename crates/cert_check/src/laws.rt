@@ -2,6 +2,8 @@
 
 ghost use Rattle.std.specs.Prelude.{◌≡◌, ◌↔◌, ◌⊎◌, ℕ, List, All};
 ghost use Rattle.mora_law.specs.Ring.{IsAdmissible};
+ghost use Rattle.mora_law.specs.Legal.{Legal};
+ghost use Rattle.mora_law.specs.Settled.{AllSettled};
 ghost use Rattle.cert_check.specs.declared.reason.Reason.{Reason};
 ghost use Rattle.cert_check.specs.declared.block.Block.{Block};
 ghost use Rattle.cert_check.specs.Block.{IsRead};
@@ -13,6 +15,12 @@ ghost use Rattle.cert_check.specs.Fault.{IsFirstFault, IsFirstFaultOf};
 /// Whoever wrote it: the answer of an accepted block is the one that the ideal of its problem determines.
 pub fn accepted_is_right()
     ensures { (b : Block) → IsAdmissible b.problem → IsAcceptedBlock b → IsRight b.problem b.answer b.corner }
+{}
+
+/// And each answer that is right is accepted behind legal entries that settle every ticket, as a solve makes them.
+pub fn settled_is_accepted()
+    ensures { (b : Block) → IsAdmissible b.problem → Legal b.problem b.entries → AllSettled b.problem b.entries
+        → IsRight b.problem b.answer b.corner → IsAcceptedBlock b }
 {}
 
 /// A block that was read is accepted exactly where all its checks hold.
