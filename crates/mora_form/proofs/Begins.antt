@@ -25,7 +25,8 @@ use Rattle.ecart.specs.Choice.{summary_at}
 use Rattle.mora_form.specs.Reducers.{row_at}
 use Rattle.mora_form.specs.Begin.{basis_in}
 use Rattle.mora_law.specs.Start.{start_of}
-use Rattle.mora_form.proofs.Vectors.{subtract_vector}
+use Rattle.trunc_row.proofs.Vectors.{subtract_vector}
+use Rattle.mora_form.proofs.Vectors.{ring_is}
 
 -- ---- generators
 -- what a list of polynomials lends
@@ -68,8 +69,8 @@ pub pair_row : (p : ℕ) (T : Shape) → InTable p → 1 ≤ T.variables → (c 
     → SubtractsMultiple p T c a f none first → SubtractsMultiple p T 1 b g first new
     → Agree (ring p T) (ring p T).n (vector_of_row new) (less (ring p T) 1 (shift (ring p T) b (vector_of_row g)) (shift (ring p T) a (vector_of_row f)))
 pair_row p T t some c a b f g none first new ce la lb z h k =
-    agree_trans (subtract_vector p T t some 1 b g first new (omega (arith, two)) lb k)
-    (record { at = λ x l. same_add (same_trans ((subtract_vector p T t some c a f none first c_small la h).at x l) (start x)) (same_refl (ring p T).p _) })
+    agree_trans (subtract_vector p T (ring p T) (ring_is p T) some 1 b g first new (omega (arith, two)) lb k)
+    (record { at = λ x l. same_add (same_trans ((subtract_vector p T (ring p T) (ring_is p T) some c a f none first c_small la h).at x l) (start x)) (same_refl (ring p T).p _) })
   where
     two : 2 ≤ p
     two = let prime = IsPrime-table p t in prime.two_up

@@ -15,7 +15,8 @@ use Rattle.rank_algebra.proofs.Residues.{same_refl, same_of, same_trans, same_ad
 use Rattle.rank_algebra.proofs.Linear.{agree_trans, inverse_same}
 use Rattle.mora_law.specs.Ring.{ring}
 use Rattle.mora_form.specs.Reduction.{IsReduced}
-use Rattle.mora_form.proofs.Vectors.{residue_same, begins_lead, subtract_vector}
+use Rattle.trunc_row.proofs.Vectors.{subtract_vector}
+use Rattle.mora_form.proofs.Vectors.{ring_is, residue_same, begins_lead}
 use Rattle.mora_law.proofs.Ring.{ring_p, ring_count, ring_quotient, ring_inverse, ring_laws}
 
 module _ (p : ℕ) (T : Shape) (t : InTable p) (some : 1 ≤ T.variables) (g r : List ℕ) (wg : IsRow p (count T) g) (wr : IsRow p (count T) r) (lead low a : ℕ) (b : BeginsAt r lead) (bg : BeginsAt g low)
@@ -29,7 +30,7 @@ module _ (p : ℕ) (T : Shape) (t : InTable p) (some : 1 ≤ T.variables) (g r :
   reduced_is c s lc ce h = (
     a,
     ring_quotient p T lead low ∙ e,
-    agree_trans (subtract_vector p T t some c a g r s lc la h) (record { at = λ k l. same_add (same_refl (ring p T).p _) (same_mul (same_times ((ring p T).p - 1) same_c) (same_refl (ring p T).p _)) }),
+    agree_trans (subtract_vector p T (ring p T) (ring_is p T) some c a g r s lc la h) (record { at = λ k l. same_add (same_refl (ring p T).p _) (same_mul (same_times ((ring p T).p - 1) same_c) (same_refl (ring p T).p _)) }),
   )
     where
       same_c : Same (ring p T).p c (get_or r lead 0 * (ring p T).inverse_of (get_or g low 0))

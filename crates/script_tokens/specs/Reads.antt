@@ -1,23 +1,14 @@
 -- What a function of the code answers, beside what the grammar reads.
-use Rattle.std.specs.Prelude.{◌≡◌, ℕ, nat_lt, if◌then◌else◌, Result, Ok, Err, Option, Some, None, List, Bool, true, false}
+use Rattle.std.specs.Prelude.{◌≡◌, ℕ, nat_lt, if◌then◌else◌, Result, Ok, Err, Option, Some, None, List}
 use Rattle.prime_field.specs.Decimal.{value_of}
 use Rattle.script_grammar.specs.declared.refusal.Refusal.{Refusal}
 use Rattle.script_grammar.specs.Steps.{◌>>=◌}
-use Rattle.script_grammar.specs.Tokens.{Token, Place, word, text, mark, bad, end, cut}
+use Rattle.script_grammar.specs.Tokens.{Place}
 
 -- the answer, seen by view, is what is read
 abbrev pub ReadsAs : {X Y : Type 0} → (X → Y) → Result X Refusal → Result Y Refusal → Type 0
 ReadsAs view (Ok x) read = read ≡ Ok (view x)
 ReadsAs view (Err f) read = read ≡ Err f
-
--- the end of the input, whole or cut off
-abbrev pub is_last : Token → Bool
-is_last (word w) = false
-is_last (text w) = false
-is_last (mark m) = false
-is_last bad = false
-is_last end = true
-is_last cut = true
 
 -- n, where it is at most the limit
 abbrev pub at_most : ℕ → ℕ → Option ℕ

@@ -3,8 +3,8 @@
 ghost use Rattle.std.specs.Prelude.{◌≡◌, true, ◌≤◌, ◌-◌, length};
 ghost use Rattle.std.specs.Str.{IsAscii};
 ghost use Rattle.script_grammar.specs.Words.{word_of};
+ghost use Rattle.script_grammar.specs.Places.{is_last};
 ghost use Rattle.script_tokens.specs.TokenView.{token_of};
-ghost use Rattle.script_tokens.specs.Reads.{is_last};
 
 /// A token of a script.
 #[derive(Clone, Copy)]

@@ -2,16 +2,22 @@
 -- Where nothing is to be removed nothing changes; from the corner on all is dropped in the end.
 use Rattle.std.proofs.Common.{◌≡◌, ℕ, zero, suc, ◌+◌, ◌-◌, ◌<◌, ◌≤◌, ◌⊎◌, List, get_or, Option, Some, None, cond, sym, ◌∙◌, ap, subst, arith, inl, inr}
 use Rattle.std.proofs.lemmas.Bool.{cases_lt, lt-ltb, le-ltb}
-use Rattle.local_order.specs.Shape.{count}
+use Rattle.local_order.specs.Shape.{Shape, count}
 use Rattle.sparse_poly.specs.Shape.{shape_of}
-use Rattle.rank_algebra.specs.Ranks.{Ranks}
 use Rattle.sparse_poly.specs.Ideal.{Problem}
-use Rattle.rank_algebra.specs.Rows.{IsRow, IsCutAt}
-use Rattle.rank_algebra.specs.Vector.{Same, Vector, cut_at, shift, less}
+use Rattle.mono_rank.specs.Rows.{SubtractsMultiple}
+use Rattle.rank_algebra.specs.Ranks.{Ranks}
+use Rattle.rank_algebra.specs.Rows.{IsCutAt, vector_of_row}
+use Rattle.rank_algebra.specs.Vector.{Same, Vector, cut_at, shift, less, Agree}
 use Rattle.rank_algebra.specs.Division.{Basis, Hit, first_lead, remove, remove_by, remainder, remainder_from}
-use Rattle.mora_law.specs.Ring.{ranks_of_problem}
 use Rattle.rank_algebra.proofs.Residues.{same_refl, same_of, same_sym, same_trans, same_add, same_mul, same_times}
-use Rattle.tail_reduce.specs.Rows.{HasVector}
+use Rattle.entry_code.specs.declared.term.Term.{Term}
+use Rattle.entry_code.specs.Terms.{vector_of_terms}
+use Rattle.mora_law.specs.Ring.{ranks_of_problem}
+use Rattle.trunc_row.specs.Rows.{IsRowOfTerms}
+use Rattle.trunc_row.proofs.Vectors.{subtract_terms}
+use Rattle.tail_reduce.specs.Terms.{AreTerms}
+use Rattle.tail_reduce.proofs.Ranked.{ring_is}
 
 -- v without its terms at the ranks below r that are multiples of leads
 abbrev pub removed : Ranks → Basis → ℕ → Vector → Vector
@@ -28,72 +34,70 @@ pub remainder_removed : (R : Ranks) (B : Basis) (corner : ℕ) (v : Vector) → 
 remainder_removed R B corner v = goes_on R B corner 0 corner v (omega arith)
 
 -- the ranks below r are divided
-pub record DividedTo (P : Problem) (B : Basis) (r : ℕ) (old new : List ℕ) : Type 0 where
-  pub row : IsRow P.p (count (shape_of P)) new
-  pub is : (v : Vector) → HasVector P v old → HasVector P (removed (ranks_of_problem P) B r v) new
+pub record DividedTo (R : Ranks) (B : Basis) (r : ℕ) (old new : List ℕ) : Type 0 where
+  pub is : (v : Vector) → Agree R R.n (vector_of_row old) v → Agree R R.n (vector_of_row new) (removed R B r v)
 
 -- none is yet
-pub divided_start : (P : Problem) (B : Basis) (row : List ℕ) → IsRow P.p (count (shape_of P)) row → DividedTo P B 0 row row
-divided_start P B row h = record { row = h; is = λ v k. k }
+pub divided_start : (R : Ranks) (B : Basis) (row : List ℕ) → DividedTo R B 0 row row
+divided_start R B row = record { is = λ v h. h }
 
 -- as a loop counts
-next : (P : Problem) (B : Basis) (r : ℕ) (v : Vector) (row : List ℕ) → HasVector P (removed (ranks_of_problem P) B (suc r) v) row → HasVector P (removed (ranks_of_problem P) B (r + 1) v) row
-next P B r v row h = let z : suc r ≡ r + 1 = omega arith in subst (λ x. HasVector P (removed (ranks_of_problem P) B x v) row) z h
+next : (R : Ranks) (B : Basis) (r : ℕ) (v : Vector) (row : List ℕ) → Agree R R.n (vector_of_row row) (removed R B (suc r) v) → Agree R R.n (vector_of_row row) (removed R B (r + 1) v)
+next R B r v row h = let z : suc r ≡ r + 1 = omega arith in subst (λ x. Agree R R.n (vector_of_row row) (removed R B x v)) z h
 
 -- a residue of 0 needs no division
-pub divided_zero : (P : Problem) (B : Basis) (r : ℕ) (old new : List ℕ) → r < count (shape_of P) → get_or new r 0 ≡ 0 → DividedTo P B r old new → DividedTo P B (r + 1) old new
-unfolding ranks_of_problem
-divided_zero P B r old new l z s = record { row = s.row; is = λ v h. next P B r v new (go (removed (ranks_of_problem P) B r v) (s.is v h)) }
+pub divided_zero : (R : Ranks) (B : Basis) (r : ℕ) (old new : List ℕ) → r < R.n → get_or new r 0 ≡ 0 → DividedTo R B r old new → DividedTo R B (r + 1) old new
+divided_zero R B r old new l z s = record { is = λ v h. next R B r v new (go (removed R B r v) (s.is v h)) }
   where
-    go : (u : Vector) → HasVector P u new → HasVector P (remove (ranks_of_problem P) B r u) new
-    go u h = by_hit (first_lead (ranks_of_problem P) B r)
+    go : (u : Vector) → Agree R R.n (vector_of_row new) u → Agree R R.n (vector_of_row new) (remove R B r u)
+    go u h = by_hit (first_lead R B r)
       where
-        gone : Same P.p (u r) 0
-        gone = same_trans (same_sym (h.is r l)) (same_of _ _ _ z)
+        gone : Same R.p (u r) 0
+        gone = same_trans (same_sym (h.at r l)) (same_of _ _ _ z)
 
-        by_hit : (o : Option Hit) → HasVector P (remove_by (ranks_of_problem P) B r u o) new
+        by_hit : (o : Option Hit) → Agree R R.n (vector_of_row new) (remove_by R B r u o)
         by_hit None = h
         by_hit (Some hit) = record {
-          row = h.row;
-          is = λ k m. same_trans (h.is k m) (same_sym (same_trans
-              (same_add (same_refl P.p (u k)) (same_mul (same_times (P.p - 1) gone) (same_refl P.p (shift (ranks_of_problem P) hit.cofactor (B.member hit.place) k))))
-              (same_of P.p _ _ (omega arith))));
+          at = λ k m. same_trans (h.at k m) (same_sym (same_trans
+              (same_add (same_refl R.p (u k)) (same_mul (same_times (R.p - 1) gone) (same_refl R.p (shift R hit.cofactor (B.member hit.place) k))))
+              (same_of R.p _ _ (omega arith))));
         }
 
 -- nor does a monomial that is no multiple of a lead
-pub divided_none : (P : Problem) (B : Basis) (r : ℕ) (old new : List ℕ) → first_lead (ranks_of_problem P) B r ≡ None → DividedTo P B r old new → DividedTo P B (r + 1) old new
-divided_none P B r old new e s = record {
-  row = s.row;
-  is = λ v h. next P B r v new
-      (subst (λ o. HasVector P (remove_by (ranks_of_problem P) B r (removed (ranks_of_problem P) B r v) o) new) (sym e) (s.is v h));
+pub divided_none : (R : Ranks) (B : Basis) (r : ℕ) (old new : List ℕ) → first_lead R B r ≡ None → DividedTo R B r old new → DividedTo R B (r + 1) old new
+divided_none R B r old new e s = record {
+  is = λ v h. next R B r v new (subst (λ o. Agree R R.n (vector_of_row new) (remove_by R B r (removed R B r v) o)) (sym e) (s.is v h));
 }
 
 -- of another the multiple of the first divisor is subtracted
-pub divided_by : (P : Problem) (B : Basis) (r c : ℕ) (old middle new : List ℕ) (hit : Hit) → r < count (shape_of P) → c ≡ get_or middle r 0 → first_lead (ranks_of_problem P) B r ≡ Some hit →
-    IsRow P.p (count (shape_of P)) new →
-    ((u : Vector) → HasVector P u middle → HasVector P (less (ranks_of_problem P) c (shift (ranks_of_problem P) hit.cofactor (B.member hit.place)) u) new) →
-    DividedTo P B r old middle → DividedTo P B (r + 1) old new
-unfolding ranks_of_problem
-divided_by P B r c old middle new hit l e f row less_is s = record {
-  row = row;
-  is = λ v h. next P B r v new
-      (subst (λ o. HasVector P (remove_by (ranks_of_problem P) B r (removed (ranks_of_problem P) B r v) o) new) (sym f) (go (removed (ranks_of_problem P) B r v) (s.is v h)));
+pub divided_by : (R : Ranks) (B : Basis) (r : ℕ) (old middle new : List ℕ) (hit : Hit) → r < R.n → first_lead R B r ≡ Some hit →
+    Agree R R.n (vector_of_row new) (less R (get_or middle r 0) (shift R hit.cofactor (B.member hit.place)) (vector_of_row middle)) →
+    DividedTo R B r old middle → DividedTo R B (r + 1) old new
+divided_by R B r old middle new hit l f taken s = record {
+  is = λ v h. next R B r v new (subst (λ o. Agree R R.n (vector_of_row new) (remove_by R B r (removed R B r v) o)) (sym f) (go (removed R B r v) (s.is v h)));
 }
   where
-    go : (u : Vector) → HasVector P u middle → HasVector P (less (ranks_of_problem P) (u r) (shift (ranks_of_problem P) hit.cofactor (B.member hit.place)) u) new
-    go u h = let g = less_is u h in record {
-      row = row;
-      is = λ k m. same_trans (g.is k m) (same_add (same_refl P.p (u k)) (same_mul (same_times (P.p - 1) (same_trans (same_of P.p _ _ e) (h.is r l))) (same_refl P.p _)));
+    go : (u : Vector) → Agree R R.n (vector_of_row middle) u → Agree R R.n (vector_of_row new) (less R (u r) (shift R hit.cofactor (B.member hit.place)) u)
+    go u h = record {
+      at = λ k m. same_trans (taken.at k m) (same_add (h.at k m) (same_mul (same_times (R.p - 1) (h.at r l)) (same_refl R.p _)));
     }
+
+-- what a table's multiple of terms takes from a row, by the ranks of the problem
+pub terms_taken : (P : Problem) (p : ℕ) (T : Shape) → p ≡ P.p → T ≡ shape_of P → 1 ≤ P.n → (c a : ℕ) (ts : List Term) (r s : List ℕ) → c < P.p → a < count (shape_of P) → AreTerms P ts →
+    ((g : List ℕ) → IsRowOfTerms (count T) ts g → SubtractsMultiple p T c a g r s) →
+    Agree (ranks_of_problem P) (ranks_of_problem P).n (vector_of_row s) (less (ranks_of_problem P) c (shift (ranks_of_problem P) a (vector_of_terms ts)) (vector_of_row r))
+terms_taken P p T e f some c a ts r s lc la w h =
+    subtract_terms P.p (shape_of P) (ranks_of_problem P) (ring_is P) some c a ts r s lc la w.ranks
+    (subst (λ (U : Shape). (g : List ℕ) → IsRowOfTerms (count U) ts g → SubtractsMultiple P.p U c a g r s) f
+    (subst (λ q. (g : List ℕ) → IsRowOfTerms (count T) ts g → SubtractsMultiple q T c a g r s) e h))
 
 -- ---- what lies from the corner on
 -- with them dropped it is the remainder
-pub divided_all : (P : Problem) (B : Basis) (corner : ℕ) (old middle new : List ℕ) (v : Vector) → IsRow P.p (count (shape_of P)) new → IsCutAt corner middle new → DividedTo P B corner old middle →
-    HasVector P v old → HasVector P (remainder (ranks_of_problem P) B corner v) new
-unfolding ranks_of_problem
-divided_all P B corner old middle new v row cut s h =
-    subst (λ u. HasVector P u new) (sym (remainder_removed (ranks_of_problem P) B corner v)) (record { row = row; is = λ k l. go k l (cases_lt k corner) })
+pub divided_all : (R : Ranks) (B : Basis) (corner : ℕ) (old middle new : List ℕ) (v : Vector) → IsCutAt corner middle new → DividedTo R B corner old middle →
+    Agree R R.n (vector_of_row old) v → Agree R R.n (vector_of_row new) (remainder R B corner v)
+divided_all R B corner old middle new v cut s h =
+    subst (Agree R R.n (vector_of_row new)) (sym (remainder_removed R B corner v)) (record { at = λ k l. go k l (cases_lt k corner) })
   where
-    go : (k : ℕ) → k < count (shape_of P) → (k < corner) ⊎ (corner ≤ k) → Same P.p (get_or new k 0) (cut_at corner (removed (ranks_of_problem P) B corner v) k)
-    go k l (inl m) = same_trans (same_of _ _ _ (cut.kept k m)) (same_trans ((s.is v h).is k l) (same_of _ _ _ (sym (ap (λ b. cond b (removed (ranks_of_problem P) B corner v k) 0) (lt-ltb k corner m)))))
-    go k l (inr m) = same_of _ _ _ (cut.dropped k m ∙ sym (ap (λ b. cond b (removed (ranks_of_problem P) B corner v k) 0) (le-ltb k corner m)))
+    go : (k : ℕ) → k < R.n → (k < corner) ⊎ (corner ≤ k) → Same R.p (get_or new k 0) (cut_at corner (removed R B corner v) k)
+    go k l (inl m) = same_trans (same_of _ _ _ (cut.kept k m)) (same_trans ((s.is v h).at k l) (same_of _ _ _ (sym (ap (λ b. cond b (removed R B corner v k) 0) (lt-ltb k corner m)))))
+    go k l (inr m) = same_of _ _ _ (cut.dropped k m ∙ sym (ap (λ b. cond b (removed R B corner v k) 0) (le-ltb k corner m)))

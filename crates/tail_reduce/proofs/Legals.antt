@@ -1,48 +1,26 @@
--- The terms of legal entries are in falling order, and so their leads are ranks.
+-- The terms of legal entries have rising ranks, and so their leads are ranks.
 -- A legal entry has all terms of one vector by rank, and there are no more legal entries than ranks.
-use Rattle.std.proofs.Common.{◌≡◌, ℕ, zero, suc, ◌+◌, ◌%◌, ◌<◌, ◌≤◌, List, [], ◌∷◌, length, get_or, All, Bool, true, false, sym, subst, arith}
+use Rattle.std.proofs.Common.{◌≡◌, ℕ, ◌%◌, ◌<◌, ◌≤◌, List, [], ◌∷◌, length, get_or, All, sym, subst, arith}
 use Rattle.std.proofs.Math.Nat
 use Rattle.std.proofs.lemmas.List.{get_or-map, length-map}
 use Rattle.std.proofs.lemmas.List.Elements.{All-from_get_or}
 use Rattle.local_order.specs.Shape.{Shape, count}
 use Rattle.sparse_poly.specs.Shape.{shape_of}
-use Rattle.rank_algebra.specs.Ranks.{Ranks}
 use Rattle.sparse_poly.specs.Ideal.{Problem, IsProblem}
 use Rattle.entry_code.specs.declared.term.Term.{Term}
 use Rattle.entry_code.specs.Entry.{Entry, no_entry, entry_at}
-use Rattle.rank_algebra.specs.Vector.{Same, Vector}
-use Rattle.mora_law.specs.Ring.{numbering_of, ranks_of_problem, IsAdmissible, generators_of}
+use Rattle.rank_algebra.specs.Vector.{Same}
+use Rattle.mora_law.specs.Ring.{ranks_of_problem, IsAdmissible, generators_of}
 use Rattle.mora_law.proofs.Ring.{ranks_are, problem_is_admissible}
-use Rattle.mora_law.specs.Lead.{is_none_at}
-use Rattle.mora_law.specs.Entries.{terms_of, lead_rank, basis_of, AreMonic}
+use Rattle.mora_law.specs.Entries.{lead_rank, basis_of, AreMonic}
 use Rattle.entry_code.specs.Terms.{vector_of_terms}
 use Rattle.mora_law.specs.Legal.{Legal}
 use Rattle.mora_law.proofs.Existence.{few_entries}
 use Rattle.mora_law.proofs.Problems.{monic}
-use Rattle.mora_law.proofs.Terms.{term_by, terms_from, terms_walk}
-use Rattle.tail_reduce.specs.Rows.{AreFalling, HaveTerms}
+use Rattle.tail_reduce.specs.Terms.{HaveTerms}
 use Rattle.tail_reduce.specs.Divisors.{leads_of, AreLeadsOf}
 use Rattle.tail_reduce.proofs.Ranked.{ranks_n}
-
--- a lesser rank to fall from
-falling_from : (p n from low : ℕ) (ts : List Term) → low ≤ from → AreFalling p n from ts → AreFalling p n low ts
-falling_from p n from low [] l h = tt
-falling_from p n from low (t ∷ ts) l h = (omega (arith, l, h.0), h.1, h.2, h.3)
-
--- the terms of the ranks from r on are in falling order
-falling_walk : (R : Ranks) (v : Vector) (left r : ℕ) → 0 < R.p → r + left ≤ R.n → AreFalling R.p R.n r (terms_from R left r v)
-falling_walk R v zero r pos l = tt
-falling_walk R v (suc left) r pos l = go (is_none_at R v r) (falling_walk R v left (suc r) pos (omega arith))
-  where
-    go : (b : Bool) → AreFalling R.p R.n (suc r) (terms_from R left (suc r) v) → AreFalling R.p R.n r (term_by r (v r % R.p) (terms_from R left (suc r) v) b)
-    go true h = falling_from R.p R.n (suc r) r (terms_from R left (suc r) v) (omega arith) h
-    go false h = (omega arith, omega arith, Nat.mod-lt (v r) pos, h)
-
--- so are all terms of a vector
-falling_terms : (P : Problem) (v : Vector) → IsAdmissible P → AreFalling P.p (count (shape_of P)) 0 (terms_of (ranks_of_problem P) v)
-unfolding ranks_of_problem numbering_of
-falling_terms P v h =
-    subst (AreFalling P.p (count (shape_of P)) 0) (sym (terms_walk (ranks_of_problem P) v)) (falling_walk (ranks_of_problem P) v (count (shape_of P)) 0 (omega (arith, h.prime.two_up)) (omega arith))
+use Rattle.tail_reduce.proofs.Falling.{AreFalling, rising, residues, falling_terms}
 
 -- a vector with a term has terms
 some_terms : (p r : ℕ) (ts : List Term) → 2 ≤ p → Same p (vector_of_terms ts r) 1 → 0 < length ts
@@ -59,12 +37,17 @@ module _ (P : Problem) (problem : IsProblem P) (entries : List Entry) (legal : L
   M = monic P A entries legal
 
   -- legal entries have terms in falling order
+  falling : (k : ℕ) → k < length entries → AreFalling P.p (count (shape_of P)) 0 (entry_at entries k).terms
+  falling k l = subst (AreFalling P.p (count (shape_of P)) 0) (sym (legal k l).terms) (falling_terms P _ A)
+
+  -- so they have terms with rising ranks
   pub legal_terms : HaveTerms P entries
   unfolding ranks_of_problem
   legal_terms = record {
     each = λ k l. record {
       some = some_terms P.p _ (entry_at entries k).terms A.prime.two_up (M.one k l);
-      falling = subst (AreFalling P.p (count (shape_of P)) 0) (sym (legal k l).terms) (falling_terms P _ A);
+      ranks = rising P.p (count (shape_of P)) (entry_at entries k).terms (falling k l);
+      residues = residues P.p (count (shape_of P)) (entry_at entries k).terms (falling k l);
     };
   }
 

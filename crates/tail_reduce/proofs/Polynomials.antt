@@ -15,7 +15,6 @@ use Rattle.rank_algebra.specs.Vector.{Vector, Agree}
 use Rattle.mora_law.specs.Ring.{numbering_of, ranks_of_problem}
 use Rattle.mora_law.specs.Entries.{term_at, terms_of, poly_term, poly_of_terms}
 use Rattle.mora_law.proofs.Terms.{terms_same}
-use Rattle.tail_reduce.specs.Rows.{HasVector}
 
 module _ (P : Problem) where
   -- where a vector has 0 there is no term
@@ -55,11 +54,7 @@ module _ (P : Problem) where
       ap (λ n. poly_of_terms P (filter_map (term_at (ranks_of_problem P) (vector_of_row r)) (range_with_len 0 n))) (sym h.full)
       ∙ terms_are (vector_of_row r) 0 r h.residues (λ j l. let e : 0 + j ≡ j = omega arith in ap (λ i. get_or r i 0) e)
 
-  -- a row agrees with the vector that it has
-  row_agrees : (v : Vector) (r : List ℕ) → HasVector P v r → Agree (ranks_of_problem P) (ranks_of_problem P).n (vector_of_row r) v
-  unfolding ranks_of_problem numbering_of
-  row_agrees v r h = record { at = λ k l. h.is k l }
-
-  -- so its polynomial is that of the terms of the vector
-  pub poly_of_vector : (v : Vector) (r : List ℕ) → HasVector P v r → poly_of_row (shape_of P) r ≡ poly_of_terms P (terms_of (ranks_of_problem P) v)
-  poly_of_vector v r h = sym (row_is r h.row) ∙ ap (poly_of_terms P) (terms_same (ranks_of_problem P) (vector_of_row r) v (row_agrees v r h))
+  -- so is that of the terms of a vector that it agrees with
+  pub poly_of_vector : (v : Vector) (r : List ℕ) → IsRow P.p (count (shape_of P)) r → Agree (ranks_of_problem P) (ranks_of_problem P).n (vector_of_row r) v
+      → poly_of_row (shape_of P) r ≡ poly_of_terms P (terms_of (ranks_of_problem P) v)
+  poly_of_vector v r w h = sym (row_is r w) ∙ ap (poly_of_terms P) (terms_same (ranks_of_problem P) (vector_of_row r) v h)

@@ -5,12 +5,13 @@ ghost use Rattle.local_order.specs.Shape.{count};
 ghost use Rattle.sparse_poly.specs.Shape.{shape_of};
 ghost use Rattle.sparse_poly.specs.Poly.{in_variables};
 ghost use Rattle.sparse_poly.specs.Ideal.{IsProblem};
-ghost use Rattle.rank_algebra.specs.Rows.{IsRow};
+ghost use Rattle.rank_algebra.specs.Rows.{IsRow, vector_of_row};
+ghost use Rattle.rank_algebra.specs.Vector.{Agree};
 ghost use Rattle.rank_algebra.specs.Division.{corner_of};
 ghost use Rattle.mora_law.specs.Ring.{ranks_of_problem};
 ghost use Rattle.mora_law.specs.Entries.{basis_of, terms_of, poly_of_terms};
 ghost use Rattle.mora_law.specs.Basis.{tidied};
-ghost use Rattle.tail_reduce.specs.Rows.{HasVector, HaveTerms};
+ghost use Rattle.tail_reduce.specs.Terms.{HaveTerms};
 ghost use Rattle.tail_reduce.specs.Divisors.{AreFirsts};
 
 use crate::divisors::Divisor;
@@ -63,7 +64,9 @@ fn tidy(
     requires corner { corner ≡ corner_of (ranks_of_problem problem.now) (basis_of entries.now) }
     requires place { place < length entries.now }
     requires row { IsRow problem.now.p (count (shape_of problem.now)) row.old }
-    ensures { HasVector problem.now (tidied (ranks_of_problem problem.now) (basis_of entries.now) place) row.new }
+    ensures row { IsRow problem.now.p (count (shape_of problem.now)) row.new }
+    ensures value { Agree (ranks_of_problem problem.now) (ranks_of_problem problem.now).n (vector_of_row row.new)
+        (tidied (ranks_of_problem problem.now) (basis_of entries.now) place) }
 {
     let field = problem.field();
     let terms = &entries.get(place as usize).terms;

@@ -7,3 +7,5 @@ pub mod TermRows
 mod Writing
 pub mod Cuts
 pub mod RowPolynomials
+pub mod TermMultiples
+pub mod Vectors

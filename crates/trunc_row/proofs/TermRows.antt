@@ -1,10 +1,10 @@
 -- Terms with rising ranks are written into a row one by one.
 -- No two have one rank, so at each rank stands the coefficient of the first term of this rank.
-use Rattle.std.proofs.Common.{◌≡◌, ℕ, zero, suc, ◌+◌, ◌<◌, ◌≤◌, ◌⊎◌, List, [], ◌∷◌, length, get_or, take, set, All, Bool, true, false, cond, eqb, Some, slice_get, refl, ap, sym, ◌∙◌, inl, inr, subst, arith, get_or-set_other, get_or-set_same}
-use Rattle.std.proofs.lemmas.Bool.{cases_eq, eq-eqb, ne_eqb}
-use Rattle.std.proofs.lemmas.List.{length-set, take_all, get_or_default}
+use Rattle.std.proofs.Common.{◌≡◌, ℕ, zero, suc, ◌+◌, ◌<◌, ◌≤◌, ◌⊎◌, List, [], ◌∷◌, length, get_or, take, set, All, Bool, true, false, cond, eqb, Some, None, replicate, slice_get, refl, ap, sym, ◌∙◌, inl, inr, subst, arith, get_or-set_other, get_or-set_same}
+use Rattle.std.proofs.lemmas.Bool.{cases_lt, cases_eq, eq-eqb, ne_eqb}
+use Rattle.std.proofs.lemmas.List.{length-set, length-replicate, get_or-replicate, get_or_past, take_all, get_or_default}
 use Rattle.std.proofs.lemmas.List.Elements.{All-get_or}
-use Rattle.std.proofs.lemmas.Option.{slice_get_within, get_or_from_slice_get}
+use Rattle.std.proofs.lemmas.Option.{slice_get_cases, slice_get_within, get_or_from_slice_get}
 use Rattle.entry_code.specs.declared.term.Term.{Term}
 use Rattle.rank_algebra.specs.Rows.{IsRow}
 use Rattle.trunc_row.specs.Rows.{IsRowOfTerms}
@@ -90,3 +90,26 @@ terms_row p places ts r l h w = record { full = w.full; residues = λ k x m. sub
 -- what holds of all terms holds of one of them
 pub term_low : (places : ℕ) (ts : List Term) (i : ℕ) (t : Term) → All (λ u. u.rank < places) ts → slice_get ts i ≡ Some t → t.rank < places
 term_low places ts i t h e = subst (λ u. u.rank < places) (get_or_from_slice_get ts i t t e) (All-get_or (λ u. u.rank < places) ts i t (slice_get_within ts i t e) h)
+
+-- terms with rising ranks have a row
+pub terms_row_of : (places : ℕ) (ts : List Term) → HasRisingRanks places ts → (r : List ℕ) × IsRowOfTerms places ts r
+terms_row_of places ts w = let r = first (length ts) in (r.0, terms_all places (length ts) ts r.0 r.1 (omega arith))
+  where
+    -- zeros at all places
+    zeros : (k : ℕ) → (k < places) ⊎ (places ≤ k) → (let z : ℕ = 0 in get_or (replicate places z) k z ≡ z)
+    zeros k (inl l) = get_or-replicate places k 0 0 l
+    zeros k (inr l) = get_or_past (replicate places 0) k 0 (omega (arith, l, length-replicate places (let z : ℕ = 0 in z)))
+
+    -- the first i of them have one
+    first : (i : ℕ) → (r : List ℕ) × TermsTo places i ts r
+    first zero = (replicate places 0, terms_none places ts (replicate places 0) (length-replicate places (let z : ℕ = 0 in z)) (λ k. zeros k (cases_lt k places)))
+    first (suc i) = next (first i) (slice_get_cases ts i).1
+      where
+        next : (r : List ℕ) × TermsTo places i ts r → ((t : Term) × (i < length ts) × (slice_get ts i ≡ Some t) × (get_or ts i t ≡ t)) ⊎ ((length ts ≤ i) × (slice_get ts i ≡ None))
+            → (r : List ℕ) × TermsTo places (suc i) ts r
+        next r (inl t) = (
+          set r.0 t.0.rank t.0.coef,
+          subst (λ j. TermsTo places j ts (set r.0 t.0.rank t.0.coef)) (let q : i + 1 ≡ suc i = omega arith in q)
+              (terms_more places i ts r.0 t.0 w r.1 t.2 (term_low places ts i t.0 w.low t.2)),
+        )
+        next r (inr past) = (r.0, record { full = r.1.full; coefs = λ k. r.1.coefs k ∙ ap (λ s. vector_of_terms s k) (take_all i ts past.0 ∙ sym (take_all (suc i) ts (omega (arith, past.0)))) })

@@ -1,9 +1,9 @@
 //! The loops over the residues of rows.
 
-ghost use Rattle.std.specs.Prelude.{◌≡◌, ℕ, ◌+◌, ◌<◌, ◌≤◌, length};
+ghost use Rattle.std.specs.Prelude.{◌≡◌, ℕ, List, ◌+◌, ◌<◌, ◌≤◌, length, All};
 ghost use Rattle.local_order.specs.Shape.{count};
 ghost use Rattle.sparse_poly.specs.Poly.{HasResidues, coef};
-ghost use Rattle.rank_algebra.specs.Rows.{IsRow, IsScaled, Subtracts};
+ghost use Rattle.rank_algebra.specs.Rows.{IsRow, IsCutAt, IsScaled, Subtracts};
 ghost use Rattle.mono_rank.specs.Rows.{SubtractsMultiple, IsRowOf};
 ghost use Rattle.trunc_row.specs.Rows.{SubtractsRun, IsRowOfTerms};
 ghost use Rattle.entry_code.specs.Terms.{HasRisingRanks};
@@ -36,6 +36,47 @@ pub fn write_terms(row: &mut [u32], terms: &Terms)
     for i in 0..terms.len() {
         let term = terms.get(i);
         row[term.rank as usize] = term.coef;
+    }
+}
+
+/// Subtracts `c` times the multiple, by the monomial of rank `shift`, of the polynomial with these terms, cut beyond the table's degree,
+/// from a row that is lent as its residues. It costs a product of ranks for each term up to the first whose product is beyond the degree.
+pub fn sub_terms(
+    row: &mut [u32],
+    table: &RankTable,
+    field: &Field,
+    c: u32,
+    shift: u32,
+    terms: &Terms,
+)
+    requires own { IsRow field.now (count table.now) row.old }
+    requires ranks { HasRisingRanks (count table.now) terms.now.list }
+    requires coefs { All (λ t. t.coef < field.now) terms.now.list }
+    requires residue { c < field.now }
+    requires shift { shift < count table.now }
+    ensures row { IsRow field.now (count table.now) row.new }
+    ensures value { (g : List ℕ) → IsRowOfTerms (count table.now) terms.now.list g
+        → SubtractsMultiple field.now table.now c shift g row.old row.new }
+{
+    let _count = table.count();
+    let factor = field.neg(c);
+    for k in 0..terms.len() {
+        let term = terms.get(k);
+        // ranks rise, so where one product is beyond the degree those of all later terms are
+        let Some(product) = table.times_rank(shift, term.rank) else {
+            return;
+        };
+        let place = product as usize;
+        row[place] = field.add_product(row[place], factor, term.coef);
+    }
+}
+
+/// Drops the residues of rank `w` and more, of a row that is lent as its residues.
+pub fn cut(row: &mut [u32], w: u32)
+    ensures { IsCutAt w row.old row.new }
+{
+    for k in w as usize..row.len() {
+        row[k] = 0;
     }
 }
 
