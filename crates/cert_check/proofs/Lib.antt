@@ -26,3 +26,11 @@ pub mod MonicTerms
 pub mod Leaves
 pub mod Replaying
 pub mod Before
+pub mod LeadRanks
+pub mod Answered
+pub mod BlockLines
+pub mod Minimal
+pub mod Tidying
+pub mod Members
+pub mod Passing
+pub mod Passed

@@ -57,7 +57,7 @@ module _ (P : Problem) (some : 1 ≤ P.n) (entries : List Entry) where
   W = numbering_is P some
 
   -- whether a lead divides m
-  decided_led : (m : List ℕ) → Decided (IsMultipleOfLeads P entries m)
+  pub decided_led : (m : List ℕ) → Decided (IsMultipleOfLeads P entries m)
   decided_led m = decided_by to from (decided_some (λ k. Divides (get_or (leads P entries) k []) m) (λ k. decided_divides (get_or (leads P entries) k []) m) (length (leads P entries)))
     where
       to : (k : ℕ) × (k < length (leads P entries)) × Divides (get_or (leads P entries) k []) m → IsMultipleOfLeads P entries m

@@ -1,12 +1,12 @@
 -- What a solve certifies is accepted: where the entries are legal and settle every ticket, a right answer passes each check.
 -- The start of each ticket is in the ideal, so plain division leaves nothing of it; the rest is the criterion, read the other way round.
-use Rattle.std.proofs.Common.{◌≡◌, ℕ, ◌<◌, ◌≤◌, ◌⊎◌, List, length, Option, sym, ◌∙◌, arith, inl, inr}
+use Rattle.std.proofs.Common.{ℕ, ◌<◌, ◌⊎◌, List, length, Option, sym, ◌∙◌, arith, inl, inr}
 use Rattle.rank_algebra.specs.Ranks.{Ranks, IsRanks}
 use Rattle.rank_algebra.specs.Vector.{shift}
 use Rattle.rank_algebra.specs.Combination.{IsSpace}
 use Rattle.rank_algebra.specs.Ideal.{InSpan, Generators}
 use Rattle.rank_algebra.proofs.Echelon.{less_in}
-use Rattle.sparse_poly.specs.Ideal.{Problem, IsFirstMissing, IsStaircase, IsReducedBasis}
+use Rattle.sparse_poly.specs.Ideal.{Problem, IsFirstMissing, IsStaircase}
 use Rattle.staircase.proofs.Basis.{one_basis}
 use Rattle.entry_code.specs.declared.item.Item.{Item}
 use Rattle.entry_code.specs.declared.item.Item.TheVariants.{Generator, Pair}

@@ -1,5 +1,5 @@
 -- Polynomials by rank as the checker holds them.
-use Rattle.std.specs.Prelude.{◌≡◌, ◌≢◌, ℕ, ◌<◌, ◌≤◌, List, [], ◌∷◌, length, unwrap_or, All, ⊤}
+use Rattle.std.specs.Prelude.{◌≡◌, ◌≢◌, ℕ, ◌<◌, ◌≤◌, List, [], ◌∷◌, length, map, unwrap_or, All, ⊤}
 use Rattle.std.specs.Ordering.{nat_cmp}
 use Rattle.std.specs.BTreeMap.{BTreeMap, get}
 use Rattle.local_order.specs.Shape.{Shape}
@@ -9,6 +9,7 @@ use Rattle.entry_code.specs.declared.term.Term.{Term}
 use Rattle.entry_code.specs.Entry.{Entry}
 use Rattle.rank_algebra.specs.Vector.{Vector}
 use Rattle.mora_law.specs.Ring.{ranks_of_problem}
+use Rattle.mora_law.specs.Entries.{lead_rank}
 
 -- the coefficient at a rank
 abbrev pub at : BTreeMap ℕ ℕ → Vector
@@ -54,3 +55,7 @@ AreEntries P entries = All (λ e. AreStored P e.terms) entries
 -- the table numbers the monomials of the problem
 abbrev pub HasTable : Problem → Shape → Type 0
 HasTable P T = T ≡ shape_of P
+
+-- the ranks of the leads
+abbrev pub lead_ranks : List Entry → List ℕ
+lead_ranks entries = map (λ e. lead_rank e.terms) entries

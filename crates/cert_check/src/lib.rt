@@ -1,7 +1,9 @@
 //! The checker of certificates: what is checked of a block, line by line, and what an accepted block says of its problem.
 #![tactic(auto)]
 
+mod basis;
 mod block;
+mod check;
 mod choice;
 mod division;
 mod entry;
@@ -15,7 +17,9 @@ mod sparse;
 mod start;
 mod step;
 mod tickets;
+mod verdict;
 
 pub use block::Block;
+pub use check::check_block;
 pub use fault::Fault;
 pub use reason::Reason;
