@@ -13,10 +13,10 @@ use Rattle.script_grammar.specs.Tokens.{Place}
 use Rattle.script_grammar.specs.Words.{is_same}
 use Rattle.script_grammar.specs.Trees.{Operand, number, fraction, named, inside, Power, plain, raised, Term, single, times, Sum, bare, positive, negative, plus, minus}
 use Rattle.script_grammar.specs.Meaning.{Named, Values, value_in, variable_count, constant, short_poly, in_ring, opposite, operand_value, power_value, term_value, sum_value}
-use Rattle.ring_reader.specs.declared.names.NamedPoly.{NamedPoly}
-use Rattle.ring_reader.specs.NamesView.{declared_poly}
-use Rattle.ring_reader.specs.Gives.{meant}
-use Rattle.ring_reader.proofs.Loops.{meant_ok}
+use Rattle.expression_reader.specs.declared.names.NamedPoly.{NamedPoly}
+use Rattle.expression_reader.specs.NamesView.{declared_poly}
+use Rattle.expression_reader.specs.Gives.{meant}
+use Rattle.expression_reader.proofs.Loops.{meant_ok}
 
 -- What lies in the ring has degree at most D + 1.
 in_ring_low : (v : Values) (f : Poly) → HasDegreeAtMost (v.d + 1) (in_ring v f)

@@ -1,13 +1,6 @@
-pub mod Constants
-pub mod Loops
-pub mod Exponents
-pub mod Operands
-pub mod Handed
-pub mod Table
 pub mod Variables
 pub mod Monomials
 pub mod Remarks
-pub mod Generators
 pub mod Statements
 pub mod Scripts
 pub mod Parts

@@ -9,9 +9,9 @@ use Rattle.script_grammar.specs.Statements.{factor_at, factors_at, factor_degree
 use Rattle.std.specs.Result.{IsErrAnd}
 use Rattle.std.proofs.lemmas.Result.{err_from_is_err_and}
 use Rattle.script_tokens.specs.Reads.{ReadsAs}
-use Rattle.ring_reader.specs.Gives.{meant}
+use Rattle.expression_reader.specs.Gives.{meant}
 use Rattle.ring_reader.specs.Capped.{capped}
-use Rattle.ring_reader.proofs.Loops.{meant_ok}
+use Rattle.expression_reader.proofs.Loops.{meant_ok}
 
 -- the loop has read the monomial, and what it still reads makes the whole
 pub record MonomialSoFar (letters : List ℕ) (whole : Result (Monomial × Place) Refusal) (degree : ℕ) (t : Place) : Type 0 where

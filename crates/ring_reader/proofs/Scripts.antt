@@ -13,22 +13,23 @@ use Rattle.script_grammar.specs.Expressions.{Declarations}
 use Rattle.script_grammar.specs.Script.{after, commands_in, statement_at, statements_at}
 use Rattle.script_grammar.specs.Meaning.{Values, Named, values_after, commands_of, statements_meaning}
 use Rattle.sparse_poly.specs.Poly.{Poly, HasDegreeAtMost}
-use Rattle.ring_reader.specs.declared.names.NamedPoly.{NamedPoly}
-use Rattle.ring_reader.specs.declared.names.NamedIdeal.{NamedIdeal}
+use Rattle.expression_reader.specs.declared.names.NamedPoly.{NamedPoly}
+use Rattle.expression_reader.specs.declared.names.NamedIdeal.{NamedIdeal}
 use Rattle.ring_reader.specs.declared.effect.Effect.{Effect}
 use Rattle.ring_reader.specs.declared.effect.Effect.TheVariants as effects
-use Rattle.ring_reader.specs.declared.stop.Stop.{Stop}
-use Rattle.ring_reader.specs.Gives.{Fails, meant}
-use Rattle.ring_reader.specs.Effects.{effect_of, in_ring_of}
+use Rattle.expression_reader.specs.declared.stop.Stop.{Stop}
+use Rattle.expression_reader.specs.Gives.{Fails, meant}
+use Rattle.expression_reader.specs.Generators.{in_ring_of}
+use Rattle.ring_reader.specs.Effects.{effect_of, IsSoundEffect}
 use Rattle.ring_reader.specs.After.{polys_after, ideals_after, commands_after, commands_asked}
-use Rattle.ring_reader.specs.NamesView.{declared_poly, declared_ideal, declared_with, values_with}
+use Rattle.expression_reader.specs.NamesView.{declared_poly, declared_ideal, declared_with, values_with}
 use Rattle.ring_reader.specs.RingView.{RingValue}
 use Rattle.ring_reader.specs.Parts.{no_names, no_values}
 use Rattle.ring_reader.specs.Coherent.{IsCommandIn}
-use Rattle.ring_reader.specs.Sound.{IsValue, IsSoundEffect}
+use Rattle.expression_reader.specs.Sound.{IsValue}
 use Rattle.sparse_poly.specs.Ideal.{IsGenerator}
-use Rattle.ring_reader.proofs.Loops.{meant_ok, fails_meant, fails_on}
-use Rattle.ring_reader.proofs.Handed.{All-push}
+use Rattle.expression_reader.proofs.Loops.{meant_ok, fails_meant, fails_on}
+use Rattle.expression_reader.proofs.Handed.{All-push}
 use Rattle.ring_reader.proofs.Statements.{terms_of_ring}
 
 -- ---- many statements

@@ -2,8 +2,7 @@
 use Rattle.std.proofs.Common.{◌≡◌, ℕ, suc, ◌≤◌, true, length, List, [], ◌∷◌, map, Ok, refl, sym, ap, subst, ◌∙◌, arith}
 use Rattle.std.specs.Prelude.{All, codes}
 use Rattle.std.proofs.lemmas.List.{length-map}
-use Rattle.std.proofs.lemmas.List.Elements.{All-map}
-use Rattle.sparse_poly.specs.Poly.{Poly, Polynomial, in_variables, IsCanonical, HasDegreeAtMost}
+use Rattle.sparse_poly.specs.Poly.{Poly, Polynomial, in_variables}
 use Rattle.script_grammar.specs.declared.refusal.What.TheVariants as whats
 use Rattle.script_grammar.specs.Tokens.{Place, next}
 use Rattle.script_grammar.specs.Words.{is_the_word}
@@ -12,7 +11,7 @@ use Rattle.script_grammar.specs.Steps.{mark_at}
 use Rattle.script_grammar.specs.Expressions.{Declarations}
 use Rattle.script_grammar.specs.Statements.{new_name_at, argument_at, ideal_at}
 use Rattle.script_grammar.specs.Meaning.{Values, variable_count}
-use Rattle.ring_reader.specs.Effects.{in_ring_of}
+use Rattle.expression_reader.specs.Generators.{in_ring_of}
 use Rattle.sparse_poly.specs.Ideal.{IsGenerator}
 
 -- an ideal by another one's name

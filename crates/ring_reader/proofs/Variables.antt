@@ -15,8 +15,8 @@ use Rattle.script_grammar.specs.declared.refusal.What.TheVariants as whats
 use Rattle.script_grammar.specs.declared.refusal.ReadKind.TheVariants.{Expected}
 use Rattle.script_grammar.specs.Steps.{◌>>=◌, wanted, kind_at}
 use Rattle.script_grammar.specs.Statements.{listed_at, variable_at, variables_at, tail_of, letters_of, letters_at, letter_of, listed_letters}
-use Rattle.ring_reader.specs.declared.stop.Stop.{Stop}
-use Rattle.ring_reader.specs.Gives.{Fails, Gives, meant}
+use Rattle.expression_reader.specs.declared.stop.Stop.{Stop}
+use Rattle.expression_reader.specs.Gives.{Fails, Gives, meant}
 
 -- what the loop still reads makes the whole
 pub record ListedSoFar (ring : List ℕ) (whole : Result (List ℕ × Place) Refusal) (letters : List ℕ) (t : Place) : Type 0 where

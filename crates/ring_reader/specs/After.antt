@@ -1,8 +1,8 @@
 -- What a statement adds to what stood before it.
 use Rattle.std.specs.Prelude.{ℕ, List, [], ◌∷◌, ◌++◌}
 use Rattle.script_grammar.specs.declared.script.Command.{Command}
-use Rattle.ring_reader.specs.declared.names.NamedPoly.{NamedPoly}
-use Rattle.ring_reader.specs.declared.names.NamedIdeal.{NamedIdeal}
+use Rattle.expression_reader.specs.declared.names.NamedPoly.{NamedPoly}
+use Rattle.expression_reader.specs.declared.names.NamedIdeal.{NamedIdeal}
 use Rattle.ring_reader.specs.declared.effect.Effect.{Effect}
 use Rattle.ring_reader.specs.declared.effect.Effect.TheVariants as effects
 

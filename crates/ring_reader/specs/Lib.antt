@@ -1,8 +1,3 @@
-pub mod Sound
-pub mod NamesView
-pub mod Gives
-pub mod ReadsValue
-pub mod Constant
 pub mod RingView
 pub mod Capped
 pub mod Effects

@@ -9,7 +9,7 @@ use Rattle.script_grammar.specs.Expressions.{Declarations}
 use Rattle.script_grammar.specs.Statements.{degree_of}
 use Rattle.script_grammar.specs.Script.{ring_part, noether_part, statements_at}
 use Rattle.script_grammar.specs.Meaning.{Values, statements_meaning}
-use Rattle.ring_reader.specs.Gives.{meant}
+use Rattle.expression_reader.specs.Gives.{meant}
 use Rattle.ring_reader.specs.Behind.{remarks_read}
 use Rattle.ring_reader.specs.RingView.{RingValue, ring_value}
 

@@ -1,6 +1,6 @@
 //! What a statement does.
 
-use crate::names::{NamedIdeal, NamedPoly};
+use expression_reader::{NamedIdeal, NamedPoly};
 use script_grammar::Command;
 
 /// What a statement does.

@@ -6,18 +6,12 @@
 
 mod effect;
 mod error;
-mod expressions;
-mod lookup;
-mod members;
-mod names;
 mod noether;
 mod remark;
 mod ring;
 mod scope;
 mod script;
 mod statement;
-mod stop;
-mod values;
 
 pub use error::ReadError;
 pub use script::read_script;

@@ -7,7 +7,7 @@ ghost use Rattle.sparse_poly.specs.Letters.{AreLetters};
 ghost use Rattle.script_tokens.specs.PlaceView.{place_of};
 ghost use Rattle.script_tokens.specs.Reads.{ReadsAs};
 ghost use Rattle.script_grammar.specs.Statements.{factor_at, monomial_at, factor_degree, degree_of, noether_at};
-ghost use Rattle.ring_reader.specs.Gives.{meant};
+ghost use Rattle.expression_reader.specs.Gives.{meant};
 ghost use Rattle.ring_reader.specs.Capped.{capped};
 
 use local_order::{MAX_DEGREE, MAX_MONOMIALS, monomial_count};

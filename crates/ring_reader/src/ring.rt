@@ -11,10 +11,10 @@ ghost use Rattle.script_tokens.specs.Reads.{ReadsAs, meant_number};
 ghost use Rattle.script_grammar.specs.Tokens.{is_letter};
 ghost use Rattle.script_grammar.specs.Words.{has_letter};
 ghost use Rattle.script_grammar.specs.Statements.{ring_name_at, prime_at, variable_at, listed_at, letters_at, letters_of, ring_at};
-ghost use Rattle.ring_reader.specs.Gives.{Gives, meant};
+ghost use Rattle.expression_reader.specs.Gives.{Gives, meant};
 ghost use Rattle.ring_reader.specs.RingView.{ring_of, ring_value};
 
-use crate::stop::Stop;
+use expression_reader::Stop;
 use local_order::MAX_VARIABLES;
 use prime_field::Field;
 use script_grammar::{ReadKind, Refusal, What};

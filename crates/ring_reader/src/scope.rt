@@ -4,7 +4,7 @@ ghost use Rattle.std.specs.Prelude.{◌≡◌, [], OnOk};
 ghost use Rattle.ring_reader.specs.After.{polys_after, ideals_after, commands_after};
 
 use crate::effect::Effect;
-use crate::names::{NamedIdeal, NamedPoly};
+use expression_reader::{NamedIdeal, NamedPoly};
 use script_grammar::Command;
 use std::alloc::{AllocError, Global};
 

@@ -9,21 +9,19 @@ ghost use Rattle.script_tokens.specs.TokenView.{token_of};
 ghost use Rattle.script_grammar.specs.Statements.{is_on_poly, poly_at, ideal_at, command_at};
 ghost use Rattle.script_grammar.specs.Script.{begins_later, command_of, statement_at};
 ghost use Rattle.script_grammar.specs.Meaning.{ideal_subject, function_subject, value_in};
-ghost use Rattle.ring_reader.specs.Gives.{Gives, meant};
-ghost use Rattle.ring_reader.specs.Effects.{effect_of};
+ghost use Rattle.expression_reader.specs.Gives.{Gives, meant};
+ghost use Rattle.ring_reader.specs.Effects.{effect_of, IsSoundEffect};
 ghost use Rattle.ring_reader.specs.After.{commands_asked};
-ghost use Rattle.ring_reader.specs.NamesView.{declarations_of, values_of};
-ghost use Rattle.ring_reader.specs.Sound.{IsSound, IsSoundEffect};
+ghost use Rattle.expression_reader.specs.NamesView.{declarations_of, values_of};
+ghost use Rattle.expression_reader.specs.Sound.{IsSound};
 ghost use Rattle.sparse_poly.specs.Ideal.{IsGenerator};
 ghost use Rattle.ring_reader.specs.declared.effect.Effect.TheVariants.{Command as Commanded};
 
 use crate::effect::Effect;
-use crate::expressions::expression;
-use crate::lookup::{argument, known, new_name};
-use crate::members::members;
-use crate::names::{NamedIdeal, NamedPoly, Names};
 use crate::remark::{is_remark, remark};
-use crate::stop::Stop;
+use expression_reader::{
+    NamedIdeal, NamedPoly, Names, Stop, argument, expression, known, members, new_name,
+};
 use script_grammar::{Command, Name, ReadKind, Subject, What, Word};
 use script_tokens::{Place, behind, is_word, mark, refused};
 use sparse_poly::{Polys, Problem};

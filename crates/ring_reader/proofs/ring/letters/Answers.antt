@@ -1,6 +1,6 @@
 use Rattle.std.proofs.Common.{sym, ap, ◌∙◌, List, ℕ, Ok}
 use Rattle.script_tokens.specs.PlaceView.{place_of}
-use Rattle.ring_reader.proofs.Handed.{gives_failed}
+use Rattle.expression_reader.proofs.Handed.{gives_failed}
 use Rattle.ring_reader.proofs.Variables.{letters_listed, fails_same}
 use Rattle.ring_reader.proofs.ring.letters.Goals as goal
 

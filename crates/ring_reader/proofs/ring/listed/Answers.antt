@@ -1,6 +1,6 @@
 use Rattle.std.proofs.Common.{sym, ◌∙◌, arith}
 use Rattle.script_tokens.specs.PlaceView.{place_of}
-use Rattle.ring_reader.proofs.Handed.{gives_failed}
+use Rattle.expression_reader.proofs.Handed.{gives_failed}
 use Rattle.ring_reader.proofs.Variables.{listed_goes, listed_fails, listed_ends, listed_stops}
 use Rattle.ring_reader.proofs.ring.listed.Goals as goal
 

@@ -1,4 +1,4 @@
-use Rattle.ring_reader.proofs.Table.{offered_there, offered_itself, offered_not}
+use Rattle.expression_reader.proofs.Table.{offered_there, offered_itself, offered_not}
 use Rattle.ring_reader.proofs.ring.table_field.Goals as goal
 
 pub returns-clause-there : goal.returns-clause-there

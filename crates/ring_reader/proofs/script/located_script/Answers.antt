@@ -1,6 +1,6 @@
 use Rattle.std.proofs.Common.{subst}
 use Rattle.script_tokens.specs.PlaceView.{place_of}
-use Rattle.ring_reader.specs.Gives.{Fails}
+use Rattle.expression_reader.specs.Gives.{Fails}
 use Rattle.ring_reader.specs.Parts.{script_parts}
 use Rattle.ring_reader.proofs.Asked.{asked_from, refused_at}
 use Rattle.ring_reader.proofs.script.located_script.Goals as goal

@@ -4,7 +4,7 @@ use Rattle.std.proofs.lemmas.List.Elements.{All-nil}
 use Rattle.script_tokens.specs.PlaceView.{place_of}
 use Rattle.script_grammar.specs.Words.{is_the_end}
 use Rattle.ring_reader.specs.RingView.{ring_of}
-use Rattle.ring_reader.proofs.Handed.{gives_failed}
+use Rattle.expression_reader.proofs.Handed.{gives_failed}
 use Rattle.ring_reader.proofs.Scripts.{script_begins, script_goes_by, script_fails_by, script_ends, sound_polys, low_polys, sound_ideals, few_ideals, sound_commands, asked_count}
 use Rattle.ring_reader.proofs.script.statements.Goals as goal
 

@@ -4,7 +4,7 @@ use Rattle.script_tokens.specs.PlaceView.{place_of}
 use Rattle.ring_reader.specs.RingView.{ring_of}
 use Rattle.sparse_poly.specs.Poly.{HasDegreeAtMost}
 use Rattle.ring_reader.specs.Coherent.{IsCommandIn}
-use Rattle.ring_reader.specs.Sound.{IsValue}
+use Rattle.expression_reader.specs.Sound.{IsValue}
 use Rattle.sparse_poly.specs.Ideal.{IsGenerator}
 use Rattle.ring_reader.proofs.Scripts.{ScriptSoFar, statements_from}
 use Rattle.ring_reader.proofs.script.statements.Given as goal

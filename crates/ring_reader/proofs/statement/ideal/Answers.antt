@@ -1,9 +1,9 @@
 use Rattle.std.proofs.Common.{◌∙◌, [], ap, sym, length, map, refl}
 use Rattle.script_tokens.specs.PlaceView.{place_of}
-use Rattle.ring_reader.specs.Effects.{in_ring_of}
+use Rattle.expression_reader.specs.Generators.{in_ring_of}
 use Rattle.ring_reader.specs.Effects.{effect_of}
-use Rattle.ring_reader.specs.Gives.{meant}
-use Rattle.ring_reader.specs.NamesView.{declarations_of, values_of}
+use Rattle.expression_reader.specs.Gives.{meant}
+use Rattle.expression_reader.specs.NamesView.{declarations_of, values_of}
 use Rattle.ring_reader.proofs.Statements.{again_reads, gens_same, variables_of}
 use Rattle.ring_reader.proofs.statement.ideal.Goals as goal
 

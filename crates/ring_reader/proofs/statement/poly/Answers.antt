@@ -1,7 +1,7 @@
 use Rattle.std.proofs.Common.{◌+◌}
 use Rattle.script_tokens.specs.PlaceView.{place_of}
 use Rattle.script_grammar.specs.Expressions.{expression_at}
-use Rattle.ring_reader.specs.NamesView.{declarations_of, values_of}
+use Rattle.expression_reader.specs.NamesView.{declarations_of, values_of}
 use Rattle.ring_reader.proofs.Degrees.{declared_low, read_low}
 use Rattle.ring_reader.proofs.statement.poly.Goals as goal
 
