@@ -20,16 +20,13 @@ use Rattle.ring_reader.specs.declared.error.ReadError.TheVariants as errors
 use Rattle.ring_reader.specs.Answers.{Refuses, asked_by}
 use Rattle.local_std.specs.declared.outcome.Status.{Status}
 use Rattle.local_std.specs.declared.outcome.Status.TheVariants.{Fits, Rejected, Input, TooSmall, Memory, ReadFault, WriteFault, Usage}
-use Rattle.local_std.specs.declared.words.Request.{Request as Asked}
-use Rattle.local_std.specs.declared.words.Request.TheVariants.{Solve}
-use Rattle.local_std.specs.View.{request_in}
-use Rattle.local_std.specs.Words.{Request, solve, Asks, InGrammar}
+use Rattle.local_std.specs.Words.{Request, solve, bench, Asks, InGrammar}
 use Rattle.local_std.specs.Endings.{HasText, IsAnswered}
 use Rattle.local_std.specs.Lent.{Lent, IsUntouched, HasFailed, HasGiven}
 use Rattle.local_std.specs.Answer.{IsAnswer, AllFit, SomeIsSmall, IsVerdict}
 use Rattle.local_std.specs.Texts.{usage_line, too_long_line, refusal_line}
 use Rattle.local_std.specs.Scripts.{IsScriptOf, IsTooLong, IsRefused}
-use Rattle.local_std.specs.Due.{limit_of, RequestDue, Offers, Admits, Served, Due, IsUncertified, IsCut, Ends}
+use Rattle.local_std.specs.Due.{limit_of, RequestDue, FailsToRead, Offers, Admits, Served, Due, IsUncertified, IsCut, Ends}
 
 -- the greatest number of bytes of a script that is to be solved
 abbrev script_limit : ℕ
@@ -91,7 +88,7 @@ module _ (bytes : List ℕ) (few : length bytes ≤ script_limit) where
     })
 
 -- a verdict comes with a text
-verdict_text : (s : Script) (status : Status) → IsVerdict s status → HasText status
+pub verdict_text : (s : Script) (status : Status) → IsVerdict s status → HasText status
 verdict_text s Fits v = tt
 verdict_text s TooSmall v = tt
 verdict_text s Rejected v = tt
@@ -156,40 +153,41 @@ verdict_answers s Memory v = absurd v
 verdict_answers s ReadFault v = absurd v
 verdict_answers s WriteFault v = absurd v
 
-module _ {S K C : Type 0} (source : Lent S) (out : Lent K) (cert : Lent C) (input : List ℕ) (offers : Offers solve source input) (admits : Admits solve input) where
-  -- what is due for a script that the source had is its answer
-  answers : (status : Status) (text proof : List ℕ) → Served solve source status text proof → IsAnswered status
-  answers status text proof s = go s.is_due
-    where
-      same : s.input ≡ input
-      same =
-          let no_more = given_le (source.bytes source.before) (source.bytes source.now) s.input input offers s.reads.given in
-          read_is (source.bytes source.before) (source.bytes source.now) s.input input offers s.reads (omega (arith, no_more, admits.0))
+-- what is due for a script that the source had is its answer
+answers_solve : {S : Type 0} (source : Lent S) (input : List ℕ) → Offers solve source input → Admits solve input → (status : Status) (text proof : List ℕ) → Served solve source status text proof → IsAnswered status
+answers_solve source input offers admits status text proof s = go s.is_due
+  where
+    same : s.input ≡ input
+    same =
+        let no_more = given_le (source.bytes source.before) (source.bytes source.now) s.input input offers s.reads.given in
+        read_is (source.bytes source.before) (source.bytes source.now) s.input input offers s.reads (omega (arith, no_more, admits.0))
 
-      go : RequestDue solve s.input status text proof → IsAnswered status
-      go (inl unread) = absurd (admitted s.input text (subst (Admits solve) (sym same) admits) unread.why)
-      go (inr read) = verdict_answers (meaning read.tree) status read.answer.verdict
+    go : RequestDue solve s.input status text proof → IsAnswered status
+    go (inl unread) = absurd (admitted s.input text (subst (Admits solve) (sym same) admits) unread.why)
+    go (inr read) = verdict_answers (meaning read.tree) status read.answer.verdict
 
+-- what is due for what a request admits is its answer
+answers : {S : Type 0} (request : Request) (source : Lent S) (input : List ℕ) → Offers request source input → Admits request input → (status : Status) (text proof : List ℕ) → Served request source status text proof → IsAnswered status
+answers solve source input offers admits status text proof s = answers_solve source input offers admits status text proof s
+answers (bench k) source input offers admits status text proof s = let read = s.is_due.1 in verdict_answers (meaning read.tree) status read.answer.verdict
+
+-- a source that failed counted it
+failed_of : {S : Type 0} (request : Request) (source : Lent S) → FailsToRead request source → HasFailed source
+failed_of solve source fails = fails.0
+failed_of (bench k) source fails = absurd fails
+
+module _ {S K C : Type 0} (request : Request) (source : Lent S) (out : Lent K) (cert : Lent C) (input : List ℕ) (offers : Offers request source input) (admits : Admits request input) where
   -- where no fault was counted, what a request admits is answered
-  pub complete_of : (status : Status) → Ends solve source out cert status → (HasFailed source → ⊥) → (HasFailed out ⊎ HasFailed cert → ⊥) → IsAnswered status
-  complete_of Fits e no_read no_write = inl refl
-  complete_of TooSmall e no_read no_write = inl refl
-  complete_of Rejected e no_read no_write = inl refl
-  complete_of Memory e no_read no_write = inr refl
-  complete_of Input e no_read no_write = let (text, proof, is_due, o, c) = e.written tt in answers Input text proof is_due
-  complete_of Usage e no_read no_write = let (text, proof, is_due, o, c) = e.written tt in answers Usage text proof is_due
-  complete_of ReadFault e no_read no_write = absurd (no_read (e.read_fault refl).2.0)
-  complete_of WriteFault e no_read no_write = absurd (go (e.write_fault refl))
+  pub complete_by : (status : Status) → Ends request source out cert status → (HasFailed source → ⊥) → (HasFailed out ⊎ HasFailed cert → ⊥) → IsAnswered status
+  complete_by Fits e no_read no_write = inl refl
+  complete_by TooSmall e no_read no_write = inl refl
+  complete_by Rejected e no_read no_write = inl refl
+  complete_by Memory e no_read no_write = inr refl
+  complete_by Input e no_read no_write = let (text, proof, is_due, o, c) = e.written tt in answers request source input offers admits Input text proof is_due
+  complete_by Usage e no_read no_write = let (text, proof, is_due, o, c) = e.written tt in answers request source input offers admits Usage text proof is_due
+  complete_by ReadFault e no_read no_write = absurd (no_read (failed_of request source (e.read_fault refl).2))
+  complete_by WriteFault e no_read no_write = absurd (go (e.write_fault refl))
     where
-      go : IsUncertified (Served solve source) out cert ⊎ IsCut (Served solve source) out cert → ⊥
+      go : IsUncertified (Served request source) out cert ⊎ IsCut (Served request source) out cert → ⊥
       go (inl none) = no_write (inr none.failed)
       go (inr cut) = no_write (inl cut.failed)
-
--- the one thing to ask for is to solve
-pub asks_solve : (words : List (List ℕ)) (r : Asked) → Asks words (request_in r) → Asks words solve
-asks_solve words Solve asks = asks
-
--- what any request admits is answered, since the one request is to solve
-pub complete_by : {S K C : Type 0} (source : Lent S) (out : Lent K) (cert : Lent C) (request : Request) (input : List ℕ) → Offers request source input → Admits request input →
-    (status : Status) → Ends solve source out cert status → (HasFailed source → ⊥) → (HasFailed out ⊎ HasFailed cert → ⊥) → IsAnswered status
-complete_by source out cert solve input offers admits status e no_read no_write = complete_of source out cert input offers admits status e no_read no_write

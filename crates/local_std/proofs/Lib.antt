@@ -5,3 +5,7 @@ pub mod Blocks
 pub mod Ends
 pub mod Dues
 pub mod OneText
+mod Requests
+mod Pieces
+mod BenchScripts
+mod Benches

@@ -1,3 +1,4 @@
+pub mod Bench
 pub mod Words
 pub mod Endings
 pub mod Lent

@@ -1,12 +1,13 @@
 -- What the program's values stand for.
-use Rattle.std.specs.Prelude.{◌≡◌, ℕ, ◌⊎◌, List, take, string_bytes, if◌then◌else◌}
+use Rattle.std.specs.Prelude.{◌≡◌, ℕ, ◌≤◌, ◌⊎◌, List, take, string_bytes, if◌then◌else◌}
 use Rattle.local_std.specs.declared.outcome.Status.{Status}
 use Rattle.local_std.specs.declared.outcome.Status.TheVariants.{Fits, Input, TooSmall, WriteFault}
 use Rattle.local_std.specs.declared.reply.Reply.{Reply}
 use Rattle.local_std.specs.declared.reply.Reply.TheVariants.{Unanswered, Answered}
 use Rattle.local_std.specs.declared.words.Request.{Request as Asked}
-use Rattle.local_std.specs.declared.words.Request.TheVariants.{Solve}
-use Rattle.local_std.specs.Words.{Request, solve}
+use Rattle.local_std.specs.declared.words.Request.TheVariants.{Solve, Bench}
+use Rattle.local_std.specs.Bench.{max_bench}
+use Rattle.local_std.specs.Words.{Request, solve, bench}
 use Rattle.local_std.specs.Lent.{Lent, HasFailed, HasGained}
 
 -- the text was written, or the sink failed in it
@@ -17,6 +18,12 @@ Wrote status text sink result =
 
 abbrev pub request_in : Asked → Request
 request_in Solve = solve
+request_in (Bench k) = bench k
+
+-- the number of a bench is one of the bench
+abbrev pub IsNumbered : Request → Type 0
+IsNumbered solve = Unit {0}
+IsNumbered (bench k) = k ≤ max_bench
 
 -- the status and the text of a reply
 abbrev pub status_of : Reply → Status

@@ -1,10 +1,24 @@
 //! What the definitions of answers say of each other, without any code.
 
-ghost use Rattle.std.specs.Prelude.{◌≡◌, ℕ, List};
+ghost use Rattle.std.specs.Prelude.{◌≡◌, ◌≤◌, ℕ, List};
 ghost use Rattle.script_grammar.specs.declared.script.Script.{Script};
+ghost use Rattle.script_grammar.specs.Trees.{Tree};
+ghost use Rattle.script_grammar.specs.Valid.{IsScript};
 ghost use Rattle.local_std.specs.Answer.{IsAnswer};
+ghost use Rattle.local_std.specs.Bench.{max_bench, bench_script};
+ghost use Rattle.local_std.specs.Words.{Request, Asks};
 
 /// A script has one answer: at most one text answers what it asks.
 pub fn one_text()
     ensures { (s : Script) (text other : List ℕ) → IsAnswer s text → IsAnswer s other → text ≡ other }
+{}
+
+/// Each script of the bench is in the grammar.
+pub fn bench_scripts()
+    ensures { (k : ℕ) → k ≤ max_bench → (tree : Tree) × IsScript (bench_script k) tree }
+{}
+
+/// A list of words asks for one request at most.
+pub fn one_request()
+    ensures { (words : List (List ℕ)) (request other : Request) → Asks words request → Asks words other → request ≡ other }
 {}

@@ -5,6 +5,7 @@
 #![tactic(auto)]
 
 mod answer;
+mod bench;
 mod block;
 mod gate;
 pub mod laws;

@@ -1,13 +1,15 @@
 // The top call.
-ghost use Rattle.std.specs.Prelude.{◌≡◌, ℕ, ◌⊎◌, List, map, string_bytes};
-ghost use Rattle.local_std.specs.Words.{Request as Requested, Asks, solve};
+ghost use Rattle.std.specs.Prelude.{◌≡◌, ℕ, ◌≤◌, ◌⊎◌, List, map, string_bytes};
+ghost use Rattle.local_std.specs.Words.{Request as Requested, Asks, solve, bench as bench_of};
+ghost use Rattle.local_std.specs.Bench.{max_bench};
 ghost use Rattle.local_std.specs.Endings.{HasText, IsAnswered};
 ghost use Rattle.local_std.specs.Lent.{lent, IsUntouched, HasFailed};
 ghost use Rattle.local_std.specs.Due.{Due, OnRequest, Offers, Admits, FailsToRead, HasReadSome, IsWritten, IsBrokenOff, IsUnwritten, Ends};
-ghost use Rattle.local_std.specs.View.{Wrote};
+ghost use Rattle.local_std.specs.View.{Wrote, IsNumbered, request_in};
 ghost use Rattle.local_std.specs.Texts.{usage_line};
 ghost use Rattle.local_std.specs.declared.outcome.Status.TheVariants.{Usage};
 
+use crate::bench::bench_blocks;
 use crate::gate::Gate;
 use crate::outcome::Status;
 use crate::reply::reply_to;
@@ -61,7 +63,7 @@ pub fn run_lstd<R: Threads + Sync, S: Source, K: Sink, C: Sink, G: Gate>(
     let _gate = gate;
     match request_of(words) {
         None => misused(out, cert),
-        Some(Request::Solve) => solve(alloc, source, out, cert),
+        Some(request) => serve(alloc, request, source, out, cert),
     }
 }
 
@@ -72,6 +74,46 @@ fn misused<K: Sink, C: Sink>(out: &mut K, cert: &mut C) -> Status
 {
     let _cert = cert;
     written(out, USAGE, Status::Usage)
+}
+
+/// Serves a request.
+fn serve<S: Source, K: Sink, C: Sink>(
+    alloc: Global,
+    request: Request,
+    source: &mut S,
+    out: &mut K,
+    cert: &mut C,
+) -> Status
+    requires { IsNumbered (request_in request) }
+    ensures ends { Ends (request_in request) (lent S.left S.faults source.old source.new)
+        (lent K.written K.faults out.old out.new) (lent C.written C.faults cert.old cert.new) result }
+    ensures cert { cert.new ≡ cert.old }
+{
+    match request {
+        Request::Solve => solve(alloc, source, out, cert),
+        Request::Bench(number) => bench(alloc, number, source, out, cert),
+    }
+}
+
+/// Answers the script of a number. The source isn't read.
+fn bench<S: Source, K: Sink, C: Sink>(
+    alloc: Global,
+    number: u16,
+    source: &S,
+    out: &mut K,
+    cert: &mut C,
+) -> Status
+    requires { number ≤ max_bench }
+    ensures ends { Ends (bench_of number) (lent S.left S.faults source.now source.now)
+        (lent K.written K.faults out.old out.new) (lent C.written C.faults cert.old cert.new) result }
+    ensures cert { cert.new ≡ cert.old }
+{
+    let _source = source;
+    let _cert = cert;
+    let Ok(answer) = bench_blocks(alloc, number) else {
+        return Status::Memory;
+    };
+    written(out, answer.text.as_bytes(), answer.status())
 }
 
 /// Answers a script.

@@ -1,0 +1,5 @@
+use Rattle.local_std.proofs.Requests.{one_request}
+use Rattle.local_std.proofs.laws.one_request.Goals as goal
+
+pub returns : goal.returns
+returns c = λ words request other a b. one_request words request other a b
