@@ -3,6 +3,7 @@
 ghost use Rattle.std.specs.Prelude.{◌≡◌, IsTrue};
 ghost use Rattle.prime_field.specs.Decimal.{AreDigits};
 
+use crate::build::field;
 use prime_field::Field;
 use std::test::Fail;
 
@@ -61,20 +62,29 @@ fn are_modulo_the_greatest(large: &Field) -> bool
 
 #[test]
 fn residues(rt: HostRuntime) -> Result<(), Fail> {
-    assert!(rt; are_modulo_seven(&Field::of(7).ok_or("no field")?));
-    assert!(rt; are_modulo_the_usual(&Field::of(32003).ok_or("no field")?));
-    assert!(rt; are_modulo_the_greatest(&Field::of(GREATEST).ok_or("no field")?));
+    assert!(rt; are_modulo_seven(&field(7)?));
+    assert!(rt; are_modulo_the_usual(&field(32003)?));
+    assert!(rt; are_modulo_the_greatest(&field(GREATEST)?));
     Ok(())
+}
+
+/// The residue of a numeral.
+fn residue(p: u32, numeral: &[u8]) -> Result<u32, Fail> {
+    if !are_digits(numeral) {
+        return Err("no numeral")?;
+    }
+    Ok(field(p)?.from_decimal(numeral))
 }
 
 #[test]
 fn numerals(rt: HostRuntime) -> Result<(), Fail> {
-    let seven = Field::of(7).ok_or("no field")?;
-    let usual = Field::of(32003).ok_or("no field")?;
     let nines = [b'9'; 1000];
-    let long = b"100000000000000000000";
-    assert!(rt; are_digits(&nines) && are_digits(long));
-    assert!(rt; seven.from_decimal(long) == 2 && seven.from_decimal(b"") == 0);
-    assert!(rt; seven.from_decimal(&nines) == 3 && usual.from_decimal(&nines) == 24457);
+    let residues = [
+        residue(7, b"100000000000000000000")?,
+        residue(7, b"")?,
+        residue(7, &nines)?,
+        residue(32003, &nines)?,
+    ];
+    assert!(rt; residues == [2, 0, 3, 24457]);
     Ok(())
 }

@@ -1,154 +1,305 @@
 //! Each call on polynomials in x and y that were worked out by hand.
 
+ghost use Rattle.std.specs.Prelude.{◌≤◌};
+ghost use Rattle.local_order.specs.Limits.{max_exponent};
+
 use crate::build::{Written, field, has_terms, poly};
+use prime_field::Field;
 use sparse_poly::{Letters, Poly, Polys, Problem};
+use std::alloc::Global;
 use std::test::Fail;
+
+// x + y
+const PLUS: &[Written] = &[([0, 1], 1), ([1, 0], 1)];
+
+/// Whether a result has these terms, and is zero exactly where there are none.
+fn is_result(f: &Poly, want: &[Written]) -> bool {
+    has_terms(f, want) && f.is_zero() == want.is_empty()
+}
+
+/// Whether this is the sum.
+fn is_sum(
+    alloc: Global,
+    field: &Field,
+    f: &[Written],
+    g: &[Written],
+    want: &[Written],
+) -> Result<bool, Fail> {
+    let f = poly(alloc, field, f)?;
+    let g = poly(alloc, field, g)?;
+    let sum = f.add(alloc, field, &g)?;
+    Ok(is_result(&sum, want))
+}
+
+/// Whether this is the difference.
+fn is_difference(
+    alloc: Global,
+    field: &Field,
+    f: &[Written],
+    g: &[Written],
+    want: &[Written],
+) -> Result<bool, Fail> {
+    let f = poly(alloc, field, f)?;
+    let g = poly(alloc, field, g)?;
+    let difference = f.sub(alloc, field, &g)?;
+    Ok(is_result(&difference, want))
+}
 
 #[test]
 fn sums(rt: HostRuntime) -> Result<(), Fail> {
-    let alloc = rt.alloc();
     let three = field(3)?;
-    let plus = poly(alloc, &three, &[([0, 1], 1), ([1, 0], 1)])?;
-    let minus = poly(alloc, &three, &[([0, 1], 5), ([1, 0], 1)])?;
-    let sum = plus.add(alloc, &three, &minus)?;
-    let difference = plus.sub(alloc, &three, &minus)?;
-    let none = plus.sub(alloc, &three, &plus)?;
-    assert!(rt;
-        has_terms(&sum, &[([1, 0], 2)]) && has_terms(&difference, &[([0, 1], 2)]) && none.is_zero()
-    );
+    let minus: &[Written] = &[([0, 1], 5), ([1, 0], 1)];
+    let answers = [
+        is_sum(rt.alloc(), &three, PLUS, minus, &[([1, 0], 2)])?,
+        is_difference(rt.alloc(), &three, PLUS, minus, &[([0, 1], 2)])?,
+        is_difference(rt.alloc(), &three, PLUS, PLUS, &[])?,
+    ];
+    assert!(rt; answers == [true; 3]);
     Ok(())
+}
+
+/// Whether this is the product up to a degree.
+fn is_product(
+    alloc: Global,
+    field: &Field,
+    f: &[Written],
+    g: &[Written],
+    degree: u32,
+    want: &[Written],
+) -> Result<bool, Fail>
+    requires { degree ≤ max_exponent }
+{
+    let f = poly(alloc, field, f)?;
+    let g = poly(alloc, field, g)?;
+    let product = f.mul_cut(alloc, field, &g, degree)?;
+    Ok(is_result(&product, want))
+}
+
+/// Whether this is the power up to a degree.
+fn is_power(
+    alloc: Global,
+    field: &Field,
+    f: &[Written],
+    exponent: u32,
+    degree: u32,
+    want: &[Written],
+) -> Result<bool, Fail> {
+    if degree > 1000 {
+        return Err("beyond the limits")?;
+    }
+    let f = poly(alloc, field, f)?;
+    let power = f.pow_cut(alloc, field, exponent, degree)?;
+    Ok(is_result(&power, want))
 }
 
 #[test]
 fn products(rt: HostRuntime) -> Result<(), Fail> {
-    let alloc = rt.alloc();
     let three = field(3)?;
-    let plus = poly(alloc, &three, &[([0, 1], 1), ([1, 0], 1)])?;
-    let minus = poly(alloc, &three, &[([0, 1], 2), ([1, 0], 1)])?;
-    let product = plus.mul_cut(alloc, &three, &minus, 2)?;
-    let none = plus.mul_cut(alloc, &three, &minus, 1)?;
-    let cube = plus.pow_cut(alloc, &three, 3, 1000)?;
-    assert!(rt; has_terms(&product, &[([2, 0], 1), ([0, 2], 2)]) && none.is_zero());
-    assert!(rt; has_terms(&cube, &[([3, 0], 1), ([0, 3], 1)]));
+    let minus: &[Written] = &[([0, 1], 2), ([1, 0], 1)];
+    let answers = [
+        is_product(
+            rt.alloc(),
+            &three,
+            PLUS,
+            minus,
+            2,
+            &[([2, 0], 1), ([0, 2], 2)],
+        )?,
+        is_product(rt.alloc(), &three, PLUS, minus, 1, &[])?,
+        is_power(
+            rt.alloc(),
+            &three,
+            PLUS,
+            3,
+            1000,
+            &[([3, 0], 1), ([0, 3], 1)],
+        )?,
+    ];
+    assert!(rt; answers == [true; 3]);
     Ok(())
 }
 
-/// Exponents, degrees, and the powers of 1 + x + 3y^2 modulo 7 up to them.
-const POWERS: &[(u32, u32, &[Written])] = &[
-    (0, 0, &[([0, 0], 1)]),
-    (1, 1, &[([0, 0], 1), ([1, 0], 1)]),
-    (2, 2, &[([0, 0], 1), ([1, 0], 2), ([2, 0], 1), ([0, 2], 6)]),
-    (4_294_967_295, 1, &[([0, 0], 1), ([1, 0], 3)]),
+// 1 + x + 3y^2
+const BASE: &[Written] = &[([0, 0], 1), ([1, 0], 1), ([0, 2], 3)];
+
+/// Polynomials, exponents, degrees, and the powers modulo 7 up to them.
+const POWERS: &[(&[Written], u32, u32, &[Written])] = &[
+    (BASE, 0, 0, &[([0, 0], 1)]),
+    (BASE, 1, 1, &[([0, 0], 1), ([1, 0], 1)]),
+    (
+        BASE,
+        2,
+        2,
+        &[([0, 0], 1), ([1, 0], 2), ([2, 0], 1), ([0, 2], 6)],
+    ),
+    (BASE, 4_294_967_295, 1, &[([0, 0], 1), ([1, 0], 3)]),
+    (&[], 0, 0, &[([0, 0], 1)]),
 ];
 
 #[test]
 fn powers(rt: HostRuntime) -> Result<(), Fail> {
-    let alloc = rt.alloc();
     let seven = field(7)?;
-    let f = poly(alloc, &seven, &[([0, 0], 1), ([1, 0], 1), ([0, 2], 3)])?;
-    for (exponent, degree, expected) in POWERS {
-        let power = f.pow_cut(alloc, &seven, *exponent, *degree)?;
-        assert!(rt; has_terms(&power, expected));
+    for (f, exponent, degree, want) in POWERS {
+        assert!(rt; is_power(rt.alloc(), &seven, f, *exponent, *degree, want)?);
     }
-    let none = Poly::zero(alloc, 2).pow_cut(alloc, &seven, 0, 0)?;
-    assert!(rt; has_terms(&none, &[([0, 0], 1)]));
     Ok(())
+}
+
+// 2x + 4y^2 + x^2*y
+const MIXED: &[Written] = &[([2, 1], 1), ([1, 0], 2), ([0, 2], 4)];
+
+/// The terms up to degree 2.
+fn cut(alloc: Global, field: &Field) -> Result<Poly, Fail> {
+    Ok(poly(alloc, field, MIXED)?.cut(alloc, 2)?)
+}
+
+/// The multiple that begins with coefficient 1.
+fn monic(alloc: Global, field: &Field) -> Result<Poly, Fail> {
+    let f = poly(alloc, field, MIXED)?;
+    if f.is_zero() {
+        return Err("no terms")?;
+    }
+    Ok(f.monic(alloc, field)?)
+}
+
+/// The same polynomial.
+fn copy(alloc: Global, field: &Field) -> Result<Poly, Fail> {
+    Ok(poly(alloc, field, MIXED)?.copy(alloc)?)
 }
 
 #[test]
 fn parts(rt: HostRuntime) -> Result<(), Fail> {
-    let alloc = rt.alloc();
     let five = field(5)?;
-    let f = poly(alloc, &five, &[([2, 1], 1), ([1, 0], 2), ([0, 2], 4)])?;
-    let cut = f.cut(alloc, 2)?;
-    assert!(rt; !f.is_zero());
-    let monic = f.monic(alloc, &five)?;
-    let copy = f.copy(alloc)?;
-    assert!(rt; has_terms(&cut, &[([1, 0], 2), ([0, 2], 4)]));
-    assert!(rt; has_terms(&monic, &[([1, 0], 1), ([0, 2], 2), ([2, 1], 3)]));
-    assert!(rt; has_terms(&copy, &[([1, 0], 2), ([0, 2], 4), ([2, 1], 1)]));
+    let answers = [
+        is_result(&cut(rt.alloc(), &five)?, &[([1, 0], 2), ([0, 2], 4)]),
+        is_result(
+            &monic(rt.alloc(), &five)?,
+            &[([1, 0], 1), ([0, 2], 2), ([2, 1], 3)],
+        ),
+        is_result(
+            &copy(rt.alloc(), &five)?,
+            &[([1, 0], 2), ([0, 2], 4), ([2, 1], 1)],
+        ),
+    ];
+    assert!(rt; answers == [true; 3]);
     Ok(())
+}
+
+/// Primes, variables, and the derivatives of y + x^2 + x^3*y.
+const DERIVATIVES: &[(u32, u32, &[Written])] = &[
+    (2, 0, &[([2, 1], 1)]),
+    (2, 1, &[([0, 0], 1), ([3, 0], 1)]),
+    (3, 0, &[([1, 0], 2)]),
+    (3, 1, &[([0, 0], 1), ([3, 0], 1)]),
+];
+
+/// The derivative of y + x^2 + x^3*y by a variable.
+fn derivative(alloc: Global, p: u32, by: u32) -> Result<Poly, Fail> {
+    let field = field(p)?;
+    let f = poly(alloc, &field, &[([0, 1], 1), ([2, 0], 1), ([3, 1], 1)])?;
+    if by >= f.n() {
+        return Err("no variable")?;
+    }
+    Ok(f.derivative(alloc, &field, by)?)
 }
 
 #[test]
 fn derivatives(rt: HostRuntime) -> Result<(), Fail> {
-    let alloc = rt.alloc();
-    for (p, first, second) in [
-        (2, &[([2, 1], 1)][..], &[([0, 0], 1), ([3, 0], 1)][..]),
-        (3, &[([1, 0], 2)], &[([0, 0], 1), ([3, 0], 1)]),
-    ] {
-        let field = field(p)?;
-        // y + x^2 + x^3 * y
-        let f = poly(alloc, &field, &[([0, 1], 1), ([2, 0], 1), ([3, 1], 1)])?;
-        let by_x = f.derivative(alloc, &field, 0)?;
-        let by_y = f.derivative(alloc, &field, 1)?;
-        assert!(rt;
-            has_terms(&by_x, first) && has_terms(&by_y, second),
-            "modulo {p}"
-        );
+    for (p, by, want) in DERIVATIVES {
+        let derivative = derivative(rt.alloc(), *p, *by)?;
+        assert!(rt; is_result(&derivative, want), "by variable {by} modulo {p}");
     }
     Ok(())
 }
 
+/// The polynomials x and 0.
+fn two(alloc: Global) -> Result<Polys, Fail> {
+    let x = poly(alloc, &field(5)?, &[([1, 0], 1)])?;
+    let mut list = Polys::new(alloc);
+    list.push(x)?;
+    list.push(Poly::zero(alloc, 2))?;
+    Ok(Polys::from_vec(list.into_vec()))
+}
+
+/// Whether there are two polynomials, and the second one is 0.
+fn are_two(list: &Polys) -> bool {
+    list.len() == 2 && list.get(1).is_zero()
+}
+
 #[test]
 fn lists(rt: HostRuntime) -> Result<(), Fail> {
-    let alloc = rt.alloc();
-    let five = field(5)?;
-    let mut list = Polys::new(alloc);
-    list.push(poly(alloc, &five, &[([1, 0], 1)])?)?;
-    list.push(Poly::zero(alloc, 2))?;
-    let list = Polys::from_vec(list.into_vec());
-    let copy = list.copy(alloc)?;
-    assert!(rt; [list.len(), copy.len()] == [2, 2]);
-    assert!(rt; list.get(1).is_zero() && copy.get(1).is_zero());
+    let list = two(rt.alloc())?;
+    let copy = list.copy(rt.alloc())?;
+    assert!(rt; [are_two(&list), are_two(&copy)] == [true; 2]);
     Ok(())
+}
+
+/// The problem of x + x^2*y^3 modulo 5 and degree 5.
+fn problem(alloc: Global) -> Result<Problem, Fail> {
+    let five = field(5)?;
+    let f = poly(alloc, &five, &[([1, 0], 1), ([2, 3], 1)])?.cut(alloc, 4)?;
+    let mut gens = Polys::new(alloc);
+    gens.push(f)?;
+    Ok(Problem::checked(five, 2, 4, gens).ok_or("no problem")?)
+}
+
+/// Whether that is the problem.
+fn is_problem(problem: &Problem) -> bool {
+    let gens = problem.gens();
+    [problem.field().prime(), problem.n(), problem.d()] == [5, 2, 4]
+        && problem.generator_count() == 1
+        && gens.len() == 1
+        && has_terms(gens.get(0), &[([1, 0], 1)])
 }
 
 #[test]
 fn problems(rt: HostRuntime) -> Result<(), Fail> {
-    let alloc = rt.alloc();
-    let five = field(5)?;
-    let mut gens = Polys::new(alloc);
-    gens.push(poly(alloc, &five, &[([1, 0], 1), ([2, 3], 1)])?.cut(alloc, 4)?)?;
-    assert!(rt; five.prime() == 5);
-    let problem = Problem::checked(five, 2, 4, gens).ok_or("no problem")?;
-    let copy = problem.copy(alloc)?;
-    let numbers = [problem.field().prime(), problem.n(), problem.d()];
-    let copied = [copy.field().prime(), copy.n(), copy.d()];
-    assert!(rt; [numbers, copied] == [[5, 2, 4]; 2]);
-    assert!(rt; [problem.generator_count(), copy.generator_count()] == [1, 1]);
-    assert!(rt; problem.gens().len() == 1 && has_terms(problem.gens().get(0), &[([1, 0], 1)]));
+    let problem = problem(rt.alloc())?;
+    let copy = problem.copy(rt.alloc())?;
+    assert!(rt; [is_problem(&problem), is_problem(&copy)] == [true; 2]);
     Ok(())
+}
+
+/// Primes, numbers of variables, degrees, how often x + 6x^2*y^2 is a generator, and whether that is a problem. It is over the
+/// numbers modulo 7, and 6 is no residue modulo 5.
+const OUTSIDE: &[(u32, u32, u32, u32, bool)] = &[
+    (7, 2, 4, 64, true),
+    (7, 2, 89, 1, true),
+    (7, 2, 90, 1, false),
+    (7, 2, 3, 1, false),
+    (7, 2, 0, 0, false),
+    (7, 1, 256, 0, false),
+    (7, 3, 4, 1, false),
+    (7, 0, 4, 0, false),
+    (7, 9, 1, 0, false),
+    (7, 2, 4, 65, false),
+    (5, 2, 4, 1, false),
+];
+
+/// So many times x + 6x^2*y^2.
+fn copies(alloc: Global, count: u32) -> Result<Polys, Fail> {
+    let seven = field(7)?;
+    let mut all = Polys::new(alloc);
+    for _ in 0..count {
+        all.push(poly(alloc, &seven, &[([1, 0], 1), ([2, 2], 6)])?)?;
+    }
+    Ok(all)
+}
+
+/// Whether that is a problem.
+fn is_made(alloc: Global, p: u32, n: u32, d: u32, count: u32) -> Result<bool, Fail> {
+    let field = field(p)?;
+    let gens = copies(alloc, count)?;
+    Ok(Problem::checked(field, n, d, gens).is_some())
 }
 
 #[test]
 fn problems_from_outside(rt: HostRuntime) -> Result<(), Fail> {
-    let alloc = rt.alloc();
-    let five = field(5)?;
-    let seven = field(7)?;
-    // x + x^2 * y^2, over the numbers modulo 7 and 5 in one, as 6 is no residue modulo 5
-    let terms = [([1, 0], 1), ([2, 2], 6)];
-    for (field, n, d, copies, fits) in [
-        (&seven, 2, 4, 64, true),
-        (&seven, 2, 89, 1, true),
-        (&seven, 2, 90, 1, false),
-        (&seven, 2, 3, 1, false),
-        (&seven, 2, 0, 0, false),
-        (&seven, 1, 256, 0, false),
-        (&seven, 3, 4, 1, false),
-        (&seven, 0, 4, 0, false),
-        (&seven, 9, 1, 0, false),
-        (&seven, 2, 4, 65, false),
-        (&five, 2, 4, 1, false),
-    ] {
-        let mut gens = Polys::new(alloc);
-        for _ in 0..copies {
-            gens.push(poly(alloc, &seven, &terms)?)?;
-        }
-        let made = Problem::checked(*field, n, d, gens);
+    for (p, n, d, count, fits) in OUTSIDE {
+        let made = is_made(rt.alloc(), *p, *n, *d, *count)?;
         assert!(rt;
-            made.is_some() == fits,
-            "{n} variables, degree {d}, {copies} generators"
+            made == *fits,
+            "{n} variables, degree {d}, {count} generators"
         );
     }
     Ok(())

@@ -1,27 +1,42 @@
 //! Ranks that were worked out by hand, and whole tables.
 
+ghost use Rattle.std.specs.Prelude.{◌≡◌};
+
 use crate::build::{FALLING, mono};
 use mono_rank::{RankError, RankTable};
 use std::alloc::Global;
 use std::test::Fail;
 
-#[test]
-fn monomials_of_degree_four(rt: HostRuntime) -> Result<(), Fail> {
-    let table = RankTable::new(rt.alloc(), 2, 4)?;
+/// Whether the monomials have their ranks.
+fn are_ranked(table: &RankTable) -> Result<bool, Fail>
+    requires { table.now.variables ≡ 2 }
+{
     for (r, exps) in FALLING.iter().enumerate() {
-        let rank = table.rank(&mono(exps)?);
-        assert!(rt; rank == Some(r as u32), "at {r}");
+        if table.rank(&mono(exps)?) != Some(r as u32) {
+            return Ok(false);
+        }
     }
-    let high = mono(&[5, 0])?;
-    assert!(rt; table.count() == 15 && table.rank(&high).is_none());
-    let firsts = [
+    Ok(table.count() == 15 && table.rank(&mono(&[5, 0])?).is_none())
+}
+
+/// The rank of the first monomial of each degree.
+fn firsts(table: &RankTable) -> [u32; 5]
+    requires { table.now.degree ≡ 4 }
+{
+    [
         table.first_of_degree(0),
         table.first_of_degree(1),
         table.first_of_degree(2),
         table.first_of_degree(3),
         table.first_of_degree(4),
-    ];
-    assert!(rt; firsts == [0, 1, 3, 6, 10]);
+    ]
+}
+
+#[test]
+fn monomials_of_degree_four(rt: HostRuntime) -> Result<(), Fail> {
+    let table = RankTable::new(rt.alloc(), 2, 4)?;
+    assert!(rt; are_ranked(&table)?);
+    assert!(rt; firsts(&table) == [0, 1, 3, 6, 10]);
     Ok(())
 }
 
