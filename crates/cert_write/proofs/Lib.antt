@@ -1,0 +1,4 @@
+pub mod Steps
+pub mod Writing
+pub mod Stopping
+pub mod Parts
