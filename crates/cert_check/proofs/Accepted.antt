@@ -16,7 +16,7 @@ use Rattle.mora_law.specs.Legal.{IsItemOf, IsLegalEntry, Legal}
 use Rattle.mora_law.specs.Basis.{basis}
 use Rattle.text_out.specs.declared.answer.Answer.{Answer}
 use Rattle.text_out.specs.declared.answer.Answer.TheVariants.{Fits, TooSmall}
-use Rattle.cert_check.specs.declared.block.Block.{Block}
+use Rattle.cert_grammar.specs.declared.certified.Certified.{Certified}
 use Rattle.cert_check.specs.Block.{IsRead, terms_of_each}
 use Rattle.cert_check.specs.Accepted.{IsAfterFits, IsFreeList, highest_corner, IsAcceptedBlock}
 use Rattle.cert_check.specs.Checks.{Check, terms, tickets, verdict, count, highest, stair, reading_checks, entry_checks, entries_checks, member_checks, answer_checks, checks, IsKnown, IsCornerOf, IsRun, AreTerms, Holds}
@@ -81,7 +81,7 @@ module _ (R : Ranks) (G : Generators) (B : Basis) (i : ℕ) (e : Entry) where
           ∙ sym (ap (λ b. Some (cond b Reduced Stuck)) (le-ltb (suc j) (length e.reads) m))
 
 -- ---- the entries
-module _ (b : Block) where
+module _ (b : Certified) where
   -- the conditions of entry i
   abbrev EntryMet : ℕ → Type 0
   EntryMet i = AreMet (ranks_of_problem b.problem) (generators_of b.problem) (basis_of b.entries) i (entry_at b.entries i)
@@ -144,10 +144,10 @@ module _ (b : Block) where
   )
 
 -- ---- what stands after the verdict
-module _ (P : Problem) (entries : List Entry) (high : Option (List ℕ)) where
+module _ (letters : List ℕ) (P : Problem) (entries : List Entry) (high : Option (List ℕ)) where
   -- a block with this answer
-  abbrev with_answer : Answer → Block
-  with_answer a = record { problem = P; entries = entries; answer = a; corner = high }
+  abbrev with_answer : Answer → Certified
+  with_answer a = record { letters = letters; problem = P; entries = entries; answer = a; corner = high }
 
   -- the checks after the verdict hold where what is there is what the entries say
   after_is_checked : (a : Answer) → IsAfterFits P entries a high ↔ Every (Holds (with_answer a)) (answer_checks a)
@@ -175,7 +175,7 @@ module _ (P : Problem) (entries : List Entry) (high : Option (List ℕ)) where
           same fs hs e at = same_lists fs hs e (λ k d l. get_or_default fs k d [] l ∙ at k l ∙ get_or_default hs k [] d (omega (arith, l, e)))
 
 -- a block is accepted exactly where all its checks hold
-pub accepted_is_checked : (b : Block) → IsRead b → IsAcceptedBlock b ↔ All (Holds b) (checks b)
+pub accepted_is_checked : (b : Certified) → IsRead b → IsAcceptedBlock b ↔ All (Holds b) (checks b)
 accepted_is_checked b r = (to, from)
   where
     later : List Check
@@ -184,7 +184,7 @@ accepted_is_checked b r = (to, from)
     to : IsAcceptedBlock b → All (Holds b) (checks b)
     to a = every_all (Holds b) (checks b) (every_append (Holds b) (entries_checks 0 b.entries) later
         ((legal_is_checked b r).0 a.legal)
-        (a.divided, (a.verdict, (after_is_checked b.problem b.entries b.corner b.answer).0 a.after)))
+        (a.divided, (a.verdict, (after_is_checked b.letters b.problem b.entries b.corner b.answer).0 a.after)))
 
     from : All (Holds b) (checks b) → IsAcceptedBlock b
     from h =
@@ -193,5 +193,5 @@ accepted_is_checked b r = (to, from)
           legal = (legal_is_checked b r).1 z.0;
           divided = z.1.0;
           verdict = z.1.1.0;
-          after = (after_is_checked b.problem b.entries b.corner b.answer).1 z.1.1.1;
+          after = (after_is_checked b.letters b.problem b.entries b.corner b.answer).1 z.1.1.1;
         }

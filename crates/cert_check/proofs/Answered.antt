@@ -2,7 +2,7 @@
 -- What holds is passed, and the first that fails is the fault of all.
 use Rattle.std.proofs.Common.{◌≡◌, ℕ, zero, suc, ◌+◌, ◌<◌, ◌≤◌, List, [], ◌∷◌, ◌++◌, length, drop, All, Option, Some, None, refl, sym, ◌∙◌, ap, subst, arith}
 use Rattle.entry_code.specs.Entry.{Entry, entry_at}
-use Rattle.cert_check.specs.declared.block.Block.{Block}
+use Rattle.cert_grammar.specs.declared.certified.Certified.{Certified}
 use Rattle.cert_check.specs.declared.fault.Fault.{Fault}
 use Rattle.cert_check.specs.declared.reason.Reason.{Reason}
 use Rattle.cert_check.specs.declared.reason.Reason.TheVariants as reasons
@@ -13,19 +13,19 @@ use Rattle.cert_check.proofs.Every.{every_all, all_every, every_append}
 use Rattle.cert_check.proofs.Faults.{fault_left, fault_right, fault_here}
 
 -- behind the first k members stands the one at place k
-dropped : (es : List Entry) (k : ℕ) → k < length es → drop k es ≡ entry_at es k ∷ drop (suc k) es
+pub dropped : (es : List Entry) (k : ℕ) → k < length es → drop k es ≡ entry_at es k ∷ drop (suc k) es
 dropped [] k l = absurd (omega (arith, l))
 dropped (x ∷ es) zero l = refl
 dropped (x ∷ es) (suc k) l = dropped es k (omega (arith, l))
 
 -- and behind all nothing
-dropped_all : (es : List Entry) (k : ℕ) → length es ≤ k → drop k es ≡ []
+pub dropped_all : (es : List Entry) (k : ℕ) → length es ≤ k → drop k es ≡ []
 dropped_all [] zero l = refl
 dropped_all [] (suc k) l = refl
 dropped_all (x ∷ es) zero l = absurd (omega (arith, l))
 dropped_all (x ∷ es) (suc k) l = dropped_all es k (omega (arith, l))
 
-module _ (b : Block) where
+module _ (b : Certified) where
   -- where the first checks hold, the answer of the others is that of all
   pub answered_behind : (cs ds : List Check) (o : Option Fault) → All (Holds b) cs → IsAnswered b ds o → IsAnswered b (cs ++ ds) o
   answered_behind cs ds None h a = every_all (Holds b) (cs ++ ds) (every_append (Holds b) cs ds (all_every (Holds b) cs h) (all_every (Holds b) ds a))

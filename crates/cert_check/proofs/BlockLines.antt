@@ -5,9 +5,10 @@ use Rattle.std.specs.List.{sum_by}
 use Rattle.std.proofs.lemmas.List.{take_more, take_all}
 use Rattle.std.proofs.lemmas.List.Sums.{sum-map, sum_by_push, sum_by-take-le}
 use Rattle.entry_code.specs.Entry.{Entry, no_entry, entry_at}
+use Rattle.sparse_poly.specs.Poly.{Polynomial}
 use Rattle.text_out.specs.declared.answer.Answer.{Answer}
 use Rattle.text_out.specs.declared.answer.Answer.TheVariants.{Fits, TooSmall}
-use Rattle.cert_check.specs.declared.block.Block.{Block}
+use Rattle.cert_grammar.specs.declared.certified.Certified.{Certified}
 use Rattle.cert_check.specs.Checks.{entry_lines, entry_line, verdict_line, basis_size, block_lines}
 
 -- one entry more
@@ -27,7 +28,7 @@ lines_within es k =
     let w = ap (sum_by entry_lines) (take_all (length es) es (omega arith)) in
     omega (arith, z, y, x, w)
 
-module _ (b : Block) where
+module _ (b : Certified) where
   -- the next entry begins behind the lines of this one
   pub line_more : (i : ℕ) → i < length b.entries → entry_line b (i + 1) ≡ entry_line b i + (length (entry_at b.entries i).reads + 2)
   line_more i l = let z = lines_more b.entries i l in omega (arith, z)
@@ -37,9 +38,17 @@ module _ (b : Block) where
   line_within i = let z = lines_within b.entries i in omega (arith, z)
 
 -- the verdict and what stands behind it are among the lines of the block
-pub verdict_within : (b : Block) → verdict_line b + basis_size b.answer + 2 ≤ block_lines b
+pub verdict_within : (b : Certified) → verdict_line b + basis_size b.answer + 2 ≤ block_lines b
 verdict_within b = go b.answer
   where
-    go : (a : Answer) → verdict_line b + basis_size a + 2 ≤ block_lines (record { problem = b.problem; entries = b.entries; answer = a; corner = b.corner })
+    go : (a : Answer) → verdict_line b + basis_size a + 2 ≤ block_lines (record { letters = b.letters; problem = b.problem; entries = b.entries; answer = a; corner = b.corner })
     go (Fits gs s) = omega arith
     go (TooSmall m) = omega arith
+
+-- the lines of a block behind `fits`
+pub lines_fits : (b : Certified) (gs : List Polynomial) (s : List (List ℕ)) → b.answer ≡ Fits gs s → block_lines b ≡ verdict_line b + 5 + length gs
+lines_fits b gs s e = ap (λ a. block_lines (record { letters = b.letters; problem = b.problem; entries = b.entries; answer = a; corner = b.corner })) e
+
+-- and of one whose degree is too small
+pub lines_small : (b : Certified) (m : List ℕ) → b.answer ≡ TooSmall m → block_lines b ≡ verdict_line b + 2
+lines_small b m e = ap (λ a. block_lines (record { letters = b.letters; problem = b.problem; entries = b.entries; answer = a; corner = b.corner })) e

@@ -18,7 +18,7 @@ use Rattle.mora_law.specs.Skip.{skip}
 use Rattle.mora_law.specs.Settled.{IsSkipped}
 use Rattle.text_out.specs.declared.answer.Answer.{Answer}
 use Rattle.text_out.specs.declared.answer.Answer.TheVariants.{Fits, TooSmall}
-use Rattle.cert_check.specs.declared.block.Block.{Block}
+use Rattle.cert_grammar.specs.declared.certified.Certified.{Certified}
 use Rattle.cert_check.specs.Accepted.{IsDivided, AreDivided, IsVerdict}
 use Rattle.cert_check.specs.Checks.{Check, item, known, corner as corner_check, run, terms, tickets, verdict, count, member, highest, stair, IsKnown, IsCornerOf, IsCounted, IsMember, IsStair, Holds}
 use Rattle.cert_check.proofs.TicketParts.{divided_from, divided_generators, divided_pairs}
@@ -118,7 +118,7 @@ module _ (P : Problem) (entries : List Entry) where
     decided_stair (TooSmall m) = inl tt
 
 -- the condition of a check is decided
-pub decided_check : (b : Block) → 1 ≤ b.problem.n → (c : Check) → Decided (Holds b c)
+pub decided_check : (b : Certified) → 1 ≤ b.problem.n → (c : Check) → Decided (Holds b c)
 decided_check b some (item i) = decided_item _ i _
 decided_check b some (known i j) = decided_known i _ j
 decided_check b some (corner_check i j) = decided_corner _ _ i _ j

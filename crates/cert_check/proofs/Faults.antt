@@ -4,7 +4,7 @@ use Rattle.std.proofs.lemmas.Bool.{cases_order}
 use Rattle.std.proofs.lemmas.Option.{get_or_from_slice_get}
 use Rattle.std.proofs.lemmas.List.{get_or-take}
 use Rattle.cert_check.specs.declared.reason.Reason.{Reason}
-use Rattle.cert_check.specs.declared.block.Block.{Block}
+use Rattle.cert_grammar.specs.declared.certified.Certified.{Certified}
 use Rattle.cert_check.specs.Block.{IsRead}
 use Rattle.cert_check.specs.Accepted.{IsAcceptedBlock}
 use Rattle.cert_check.specs.Checks.{Check, checks, line_of, reason_of, Holds}
@@ -44,7 +44,7 @@ take_long zero xs l = refl
 take_long (suc n) [] l = absurd (omega (arith, l))
 take_long (suc n) (x ∷ xs) l = ap suc (take_long n xs (omega (arith, l)))
 
-module _ (b : Block) where
+module _ (b : Certified) where
   -- a block is accepted, or has a first fault
   pub accepted_or_fault : IsRead b → IsAcceptedBlock b ⊎ ((line : ℕ) × (reason : Reason) × IsFirstFault b line reason)
   accepted_or_fault r = go (first_or_all (Holds b) (decided_check b r.problem.some) (checks b))
@@ -91,7 +91,7 @@ module _ (b : Block) where
 
 -- ---- parts of the order
 -- a fault in the first of two lists is one in both
-pub fault_left : (b : Block) (cs ds : List Check) (line : ℕ) (reason : Reason) → IsFirstFaultIn b cs line reason → IsFirstFaultIn b (cs ++ ds) line reason
+pub fault_left : (b : Certified) (cs ds : List Check) (line : ℕ) (reason : Reason) → IsFirstFaultIn b cs line reason → IsFirstFaultIn b (cs ++ ds) line reason
 fault_left b cs ds line reason f = record {
   place = f.place;
   check = f.check;
@@ -113,7 +113,7 @@ fault_left b cs ds line reason f = record {
     taken (x ∷ xs) (suc k) l = ap (λ zs. x ∷ zs) (taken xs k (omega (arith, l)))
 
 -- and so is a fault in the second, where the first holds
-pub fault_right : (b : Block) (cs ds : List Check) (line : ℕ) (reason : Reason) → Every (Holds b) cs → IsFirstFaultIn b ds line reason → IsFirstFaultIn b (cs ++ ds) line reason
+pub fault_right : (b : Certified) (cs ds : List Check) (line : ℕ) (reason : Reason) → Every (Holds b) cs → IsFirstFaultIn b ds line reason → IsFirstFaultIn b (cs ++ ds) line reason
 fault_right b [] ds line reason h f = f
 fault_right b (c ∷ cs) ds line reason h f =
     let g = fault_right b cs ds line reason h.1 f in
@@ -128,14 +128,14 @@ fault_right b (c ∷ cs) ds line reason h f =
     }
 
 -- a check that fails is the first fault where it stands first
-pub fault_here : (b : Block) (c : Check) (cs : List Check) (line : ℕ) (reason : Reason) → (Holds b c → ⊥) → line ≡ line_of b c → reason ≡ reason_of c → IsFirstFaultIn b (c ∷ cs) line reason
+pub fault_here : (b : Certified) (c : Check) (cs : List Check) (line : ℕ) (reason : Reason) → (Holds b c → ⊥) → line ≡ line_of b c → reason ≡ reason_of c → IsFirstFaultIn b (c ∷ cs) line reason
 fault_here b c cs line reason n l e = record { place = 0; check = c; there = refl; earlier = every_all (Holds b) [] tt; fails = n; at = l; because = e }
 
 -- ---- certificates
 -- the first block that isn't accepted, with its fault
-record IsFirstBlock (bs : List Block) : Type 0 where
+record IsFirstBlock (bs : List Certified) : Type 0 where
   pub place : ℕ
-  pub block : Block
+  pub block : Certified
   pub there : slice_get bs place ≡ Some block
   pub earlier : Every IsAcceptedBlock (take place bs)
   pub within : ℕ
@@ -143,7 +143,7 @@ record IsFirstBlock (bs : List Block) : Type 0 where
   pub fault : IsFirstFault block within reason
 
 -- all blocks are accepted, or there is one
-first_block : (bs : List Block) → Every IsRead bs → Every IsAcceptedBlock bs ⊎ IsFirstBlock bs
+first_block : (bs : List Certified) → Every IsRead bs → Every IsAcceptedBlock bs ⊎ IsFirstBlock bs
 first_block [] r = inl tt
 first_block (b ∷ bs) r = go (accepted_or_fault b r.0) (first_block bs r.1)
   where
@@ -153,7 +153,7 @@ first_block (b ∷ bs) r = go (accepted_or_fault b r.0) (first_block bs r.1)
     go (inl a) (inr f) = inr (record { place = suc f.place; block = f.block; there = f.there; earlier = (a, f.earlier); within = f.within; reason = f.reason; fault = f.fault })
 
 -- so all are accepted or there is a first fault
-pub all_accepted_or_fault : (bs : List Block) → All IsRead bs → All IsAcceptedBlock bs ⊎ ((line : ℕ) × (reason : Reason) × IsFirstFaultOf bs line reason)
+pub all_accepted_or_fault : (bs : List Certified) → All IsRead bs → All IsAcceptedBlock bs ⊎ ((line : ℕ) × (reason : Reason) × IsFirstFaultOf bs line reason)
 all_accepted_or_fault bs r = go (first_block bs (all_every IsRead bs r))
   where
     go : Every IsAcceptedBlock bs ⊎ IsFirstBlock bs → All IsAcceptedBlock bs ⊎ ((line : ℕ) × (reason : Reason) × IsFirstFaultOf bs line reason)
@@ -173,7 +173,7 @@ all_accepted_or_fault bs r = go (first_block bs (all_every IsRead bs r))
     )
 
 -- where there is one, not all are accepted
-pub fault_refuses_all : (bs : List Block) → All IsRead bs → (line : ℕ) (reason : Reason) → IsFirstFaultOf bs line reason → All IsAcceptedBlock bs → ⊥
+pub fault_refuses_all : (bs : List Certified) → All IsRead bs → (line : ℕ) (reason : Reason) → IsFirstFaultOf bs line reason → All IsAcceptedBlock bs → ⊥
 fault_refuses_all bs r line reason f a =
     let l = place_within bs f.place f.block f.there in
     let at = get_or_from_slice_get bs f.place f.block f.block f.there in

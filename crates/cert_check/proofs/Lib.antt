@@ -34,3 +34,7 @@ pub mod Tidying
 pub mod Members
 pub mod Passing
 pub mod Passed
+pub mod Read
+pub mod FaultLines
+pub mod TextLines
+pub mod Verdicts

@@ -7,7 +7,7 @@ use Rattle.mora_law.specs.Basis.{basis}
 use Rattle.mora_law.proofs.Ring.{problem_is_admissible}
 use Rattle.text_out.specs.declared.answer.Answer.{Answer}
 use Rattle.text_out.specs.declared.answer.Answer.TheVariants.{Fits}
-use Rattle.cert_check.specs.declared.block.Block.{Block}
+use Rattle.cert_grammar.specs.declared.certified.Certified.{Certified}
 use Rattle.cert_check.specs.declared.fault.Fault.{Fault}
 use Rattle.cert_check.specs.declared.reason.Reason.{Reason}
 use Rattle.cert_check.specs.declared.reason.Reason.TheVariants as reasons
@@ -23,10 +23,10 @@ use Rattle.cert_check.proofs.Every.{Every, every_all, every_append, members_ever
 use Rattle.cert_check.proofs.Faults.{fault_left, fault_right, fault_here}
 use Rattle.cert_check.proofs.Right.{right}
 
-module _ (b : Block) (gs : List Polynomial) (s : List (List ℕ)) where
+module _ (b : Certified) (gs : List Polynomial) (s : List (List ℕ)) where
   -- the block with an answer
-  abbrev with : Answer → Block
-  with a = record { problem = b.problem; entries = b.entries; answer = a; corner = b.corner }
+  abbrev with : Answer → Certified
+  with a = record { letters = b.letters; problem = b.problem; entries = b.entries; answer = a; corner = b.corner }
 
   -- as many members as the basis has
   abbrev AsMany : Type 0
@@ -72,11 +72,11 @@ module _ (b : Block) (gs : List Polynomial) (s : List (List ℕ)) where
 
 -- ---- the whole block
 -- where no check fails the block is accepted
-pub accepted_by : (b : Block) → IsRead b → (o : Option Fault) → IsAnswered b (checks b) o → IfNone o (IsAcceptedBlock b)
+pub accepted_by : (b : Certified) → IsRead b → (o : Option Fault) → IsAnswered b (checks b) o → IfNone o (IsAcceptedBlock b)
 accepted_by b r None a = (accepted_is_checked b r).1 a
 accepted_by b r (Some f) a = tt
 
 -- and its answer is right
-pub right_by : (b : Block) → IsRead b → (o : Option Fault) → IsAnswered b (checks b) o → IfNone o (IsRight b.problem b.answer b.corner)
+pub right_by : (b : Certified) → IsRead b → (o : Option Fault) → IsAnswered b (checks b) o → IfNone o (IsRight b.problem b.answer b.corner)
 right_by b r None a = right b (problem_is_admissible b.problem r.problem) ((accepted_is_checked b r).1 a)
 right_by b r (Some f) a = tt

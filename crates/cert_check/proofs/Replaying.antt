@@ -18,7 +18,7 @@ use Rattle.mora_law.specs.Alike.{RunAlike}
 use Rattle.mora_law.proofs.Ring.{ranks_are}
 use Rattle.mora_law.proofs.Alike.{step_alike}
 use Rattle.mora_law.proofs.Readings.{run_more}
-use Rattle.cert_check.specs.declared.block.Block.{Block}
+use Rattle.cert_grammar.specs.declared.certified.Certified.{Certified}
 use Rattle.cert_check.specs.declared.reason.Reason.{Reason}
 use Rattle.cert_check.specs.declared.reason.Reason.TheVariants as reasons
 use Rattle.cert_check.specs.Checks.{Check, item, known, corner, run as run_check, terms, reading_checks, entry_checks, line_of, end_at, Holds}
@@ -30,7 +30,7 @@ use Rattle.cert_check.proofs.Faults.{fault_left, fault_right, fault_here}
 use Rattle.cert_check.proofs.Stepping.{run_trans}
 
 -- ---- the run
-module _ (b : Block) (h : IsAdmissible b.problem) (i : ℕ) where
+module _ (b : Certified) (h : IsAdmissible b.problem) (i : ℕ) where
   -- the entry
   abbrev pub Own : Entry
   Own = entry_at b.entries i
@@ -98,7 +98,7 @@ checks_split i (suc j) rest k =
 abbrev pub three : ℕ → ℕ → List Check
 three i j = known i j ∷ corner i j ∷ run_check i j ∷ []
 
-module _ (b : Block) (i : ℕ) where
+module _ (b : Certified) (i : ℕ) where
   -- the checks of one more reading hold
   pub readings_more : (j : ℕ) → All (Holds b) (reading_checks i j 0) → All (Holds b) (three i j) → All (Holds b) (reading_checks i (j + 1) 0)
   readings_more j h k = subst (All (Holds b)) (sym (checks_split i j 0 0 ∙ ap (λ n. reading_checks i j 0 ++ three i n) (let z : 0 + j ≡ j = omega arith in z)))

@@ -21,7 +21,7 @@ use Rattle.mora_law.proofs.Problems.{monic, criterion, basis_is_reduced}
 use Rattle.mora_law.proofs.Corners.{corner_is_of_leads, lead_is_multiple, fits_by_corner}
 use Rattle.text_out.specs.declared.answer.Answer.{Answer}
 use Rattle.text_out.specs.declared.answer.Answer.TheVariants.{Fits, TooSmall}
-use Rattle.cert_check.specs.declared.block.Block.{Block}
+use Rattle.cert_grammar.specs.declared.certified.Certified.{Certified}
 use Rattle.cert_check.specs.Accepted.{AreDivided, IsFirstFree, IsVerdict, IsFreeList, before, highest_corner, IsAfterFits, IsAcceptedBlock}
 use Rattle.cert_check.specs.Right.{IsRight}
 
@@ -151,5 +151,5 @@ module _ (P : Problem) (h : IsAdmissible P) (entries : List Entry) (legal : Lega
   answer_is_right (TooSmall m) highest v x = ((λ f. v.0 ((fits_by_corner P h entries legal settled).0 f)), free_is_missing m v.1)
 
 -- the answer of an accepted block is right
-pub right : (b : Block) → IsAdmissible b.problem → IsAcceptedBlock b → IsRight b.problem b.answer b.corner
+pub right : (b : Certified) → IsAdmissible b.problem → IsAcceptedBlock b → IsRight b.problem b.answer b.corner
 right b h a = answer_is_right b.problem h b.entries a.legal a.divided b.answer b.corner a.verdict a.after

@@ -26,7 +26,7 @@ use Rattle.mora_law.proofs.Corners.{fits_by_corner}
 use Rattle.mora_law.proofs.Tickets.{item_below}
 use Rattle.text_out.specs.declared.answer.Answer.{Answer}
 use Rattle.text_out.specs.declared.answer.Answer.TheVariants.{Fits, TooSmall}
-use Rattle.cert_check.specs.declared.block.Block.{Block}
+use Rattle.cert_grammar.specs.declared.certified.Certified.{Certified}
 use Rattle.cert_check.specs.Block.{terms_of_each}
 use Rattle.cert_check.specs.Accepted.{IsDivided, AreDivided, IsFirstFree, IsVerdict, IsFreeList, IsAfterFits, IsAcceptedBlock}
 use Rattle.cert_check.specs.Right.{IsRight}
@@ -108,7 +108,7 @@ module _ (P : Problem) (h : IsAdmissible P) (entries : List Entry) (legal : Lega
   after_of_right (TooSmall m) highest r = tt
 
 -- legal entries that settle every ticket, with a right answer, are accepted
-pub settled_accepted : (b : Block) → IsAdmissible b.problem → Legal b.problem b.entries → AllSettled b.problem b.entries → IsRight b.problem b.answer b.corner → IsAcceptedBlock b
+pub settled_accepted : (b : Certified) → IsAdmissible b.problem → Legal b.problem b.entries → AllSettled b.problem b.entries → IsRight b.problem b.answer b.corner → IsAcceptedBlock b
 settled_accepted b h legal settled r = record {
   legal = legal;
   divided = divided b.problem h b.entries legal settled;

@@ -14,7 +14,7 @@ use Rattle.mora_law.specs.Settled.{IsSkipped, LeavesNothing}
 use Rattle.mora_law.specs.Basis.{basis}
 use Rattle.text_out.specs.declared.answer.Answer.{Answer}
 use Rattle.text_out.specs.declared.answer.Answer.TheVariants.{Fits, TooSmall}
-use Rattle.cert_check.specs.declared.block.Block.{Block}
+use Rattle.cert_grammar.specs.declared.certified.Certified.{Certified}
 use Rattle.cert_check.specs.Block.{terms_of_each}
 
 -- a lead of the entries divides m
@@ -63,7 +63,7 @@ IsAfterFits P entries (Fits gs s) highest = (terms_of_each gs ≡ basis P entrie
 IsAfterFits P entries (TooSmall m) highest = ⊤
 
 -- the block is accepted
-pub record IsAcceptedBlock (b : Block) : Type 0 where
+pub record IsAcceptedBlock (b : Certified) : Type 0 where
   pub legal : Legal b.problem b.entries
   pub divided : AreDivided b.problem b.entries
   pub verdict : IsVerdict b.problem b.entries b.answer

@@ -13,16 +13,16 @@ use Rattle.mora_law.specs.Entries.{basis_of, corner}
 use Rattle.mora_law.specs.Start.{run}
 use Rattle.mora_law.specs.Alike.{AllAlike}
 use Rattle.mora_law.specs.Basis.{minimal_with, basis}
-use Rattle.cert_check.specs.declared.block.Block.{Block}
+use Rattle.cert_grammar.specs.declared.certified.Certified.{Certified}
 use Rattle.cert_check.specs.declared.fault.Fault.{Fault}
-use Rattle.cert_check.specs.declared.check.Passed.{Passed}
+use Rattle.cert_check.specs.declared.block.Passed.{Passed}
 use Rattle.cert_check.specs.Block.{terms_of_each}
 use Rattle.cert_check.specs.Checks.{Check, Holds, verdict_line}
 use Rattle.cert_check.specs.Fault.{IsFirstFaultIn}
 use Rattle.cert_check.specs.Replay.{vectors_of}
 
 -- no fault where all these checks hold, and else the first
-abbrev pub IsAnswered : Block → List Check → Option Fault → Type 0
+abbrev pub IsAnswered : Certified → List Check → Option Fault → Type 0
 IsAnswered b cs None = All (Holds b) cs
 IsAnswered b cs (Some f) = IsFirstFaultIn b cs f.line f.reason
 
@@ -31,7 +31,7 @@ abbrev pub AreCorners : Problem → List Entry → ℕ → List ℕ → Type 0
 AreCorners P entries i corners = (k : ℕ) → k ≤ i → (k < length corners) × (get_or corners k 0 ≡ corner_of (ranks_of_problem P) (first_of k (basis_of entries)))
 
 -- v and the intermediates are those of the run of entry i by its first j readings
-pub record IsReplayed (b : Block) (i j : ℕ) (v : Vector) (ts : List (Placed Term)) : Type 0 where
+pub record IsReplayed (b : Certified) (i j : ℕ) (v : Vector) (ts : List (Placed Term)) : Type 0 where
   pub poly : Agree (ranks_of_problem b.problem) (ranks_of_problem b.problem).n v (run b.problem b.entries (entry_at b.entries i).item (take j (entry_at b.entries i).reads)).poly
   pub kept : AllAlike (ranks_of_problem b.problem) (vectors_of ts) (run b.problem b.entries (entry_at b.entries i).item (take j (entry_at b.entries i).reads)).kept
 
@@ -54,6 +54,6 @@ pub record IsWrongMember (P : Problem) (entries : List Entry) (gs : List Polynom
   pub wrong : IsMemberAt P entries gs k → ⊥
 
 -- what is known behind the entries: their corner, and the line of the verdict
-pub record IsPassed (b : Block) (x : Passed) : Type 0 where
+pub record IsPassed (b : Certified) (x : Passed) : Type 0 where
   pub corner : x.corner ≡ corner b.problem b.entries
   pub line : x.line ≡ verdict_line b

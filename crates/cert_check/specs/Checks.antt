@@ -17,7 +17,7 @@ use Rattle.cert_check.specs.declared.reason.Reason.{Reason}
 use Rattle.cert_check.specs.declared.reason.Reason.TheVariants as reasons
 use Rattle.text_out.specs.declared.answer.Answer.{Answer}
 use Rattle.text_out.specs.declared.answer.Answer.TheVariants.{Fits, TooSmall}
-use Rattle.cert_check.specs.declared.block.Block.{Block}
+use Rattle.cert_grammar.specs.declared.certified.Certified.{Certified}
 use Rattle.cert_check.specs.Block.{terms_of_each}
 use Rattle.cert_check.specs.Accepted.{AreDivided, IsVerdict, highest_corner, IsFreeList}
 
@@ -62,7 +62,7 @@ answer_checks (Fits gs s) = count ∷ (member_checks (length gs) 0 ++ highest �
 answer_checks (TooSmall m) = []
 
 -- of a block
-abbrev pub checks : Block → List Check
+abbrev pub checks : Certified → List Check
 checks b = entries_checks 0 b.entries ++ tickets ∷ verdict ∷ answer_checks b.answer
 
 -- ---- lines, counted in the block from 0
@@ -72,11 +72,11 @@ entry_lines e = length e.reads + 2
 
 -- entry i stands behind the block's line, p, the letters, the degree, the generators and their number, the number of entries,
 -- and the entries before it
-abbrev pub entry_line : Block → ℕ → ℕ
+abbrev pub entry_line : Certified → ℕ → ℕ
 entry_line b i = length b.problem.gens + 6 + sum (map entry_lines (take i b.entries))
 
 -- the verdict stands behind the entries
-abbrev pub verdict_line : Block → ℕ
+abbrev pub verdict_line : Certified → ℕ
 verdict_line b = entry_line b (length b.entries)
 
 -- how many members the block's basis has
@@ -85,7 +85,7 @@ basis_size (Fits gs s) = length gs
 basis_size (TooSmall m) = 0
 
 -- the line of a check
-abbrev pub line_of : Block → Check → ℕ
+abbrev pub line_of : Certified → Check → ℕ
 line_of b (item i) = entry_line b i
 line_of b (known i j) = entry_line b i + 1 + j
 line_of b (corner i j) = entry_line b i + 1 + j
@@ -99,7 +99,7 @@ line_of b highest = verdict_line b + 2 + basis_size b.answer
 line_of b stair = verdict_line b + 3 + basis_size b.answer
 
 -- how many lines the block has, the one at its end among them
-abbrev pub block_lines : Block → ℕ
+abbrev pub block_lines : Certified → ℕ
 block_lines b = answer_end b.answer
   where
     answer_end : Answer → ℕ
@@ -181,7 +181,7 @@ IsStair P entries (Fits gs s) = IsFreeList P entries s
 IsStair P entries (TooSmall m) = ⊤
 
 -- the condition of a check
-abbrev pub Holds : Block → Check → Type 0
+abbrev pub Holds : Certified → Check → Type 0
 Holds b (item i) = IsItemOf (length b.problem.gens) i (entry_at b.entries i).item
 Holds b (known i j) = IsKnown i (entry_at b.entries i).reads j
 Holds b (corner i j) = IsCornerOf (ranks_of_problem b.problem) (basis_of b.entries) i (entry_at b.entries i).reads j

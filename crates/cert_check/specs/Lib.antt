@@ -6,3 +6,4 @@ pub mod Fault
 pub mod Sparse
 pub mod Replay
 pub mod Answers
+pub mod Certificate

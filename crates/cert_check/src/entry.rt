@@ -10,13 +10,13 @@ ghost use Rattle.cert_check.specs.Checks.{entry_checks, entry_line};
 ghost use Rattle.cert_check.specs.Sparse.{at, HasTable, IsClean, AreStored, AreEntries};
 ghost use Rattle.cert_check.specs.Answers.{IsAnswered, AreCorners};
 
-use crate::block::Block;
 use crate::fault::Fault;
 use crate::reading::check_readings;
 use crate::reason::Reason;
 use crate::reduce::subtract;
 use crate::sparse::Sparse;
 use crate::start::start;
+use cert_grammar::Certified;
 use entry_code::{Item, Terms};
 use mono_rank::RankTable;
 use sparse_poly::Problem;
@@ -59,7 +59,7 @@ fn are_terms(
 /// Checks entry `i`, which begins at the line: the first fault, where there is one.
 pub(crate) fn check_entry(
     alloc: Global,
-    block: &Block,
+    block: &Certified,
     table: &RankTable,
     corners: &[u32],
     i: usize,

@@ -5,7 +5,7 @@ ghost use Rattle.mora_law.specs.Ring.{IsAdmissible};
 ghost use Rattle.mora_law.specs.Legal.{Legal};
 ghost use Rattle.mora_law.specs.Settled.{AllSettled};
 ghost use Rattle.cert_check.specs.declared.reason.Reason.{Reason};
-ghost use Rattle.cert_check.specs.declared.block.Block.{Block};
+ghost use Rattle.cert_grammar.specs.declared.certified.Certified.{Certified};
 ghost use Rattle.cert_check.specs.Block.{IsRead};
 ghost use Rattle.cert_check.specs.Accepted.{IsAcceptedBlock};
 ghost use Rattle.cert_check.specs.Right.{IsRight};
@@ -14,32 +14,32 @@ ghost use Rattle.cert_check.specs.Fault.{IsFirstFault, IsFirstFaultOf};
 
 /// Whoever wrote it: the answer of an accepted block is the one that the ideal of its problem determines.
 pub fn accepted_is_right()
-    ensures { (b : Block) → IsAdmissible b.problem → IsAcceptedBlock b → IsRight b.problem b.answer b.corner }
+    ensures { (b : Certified) → IsAdmissible b.problem → IsAcceptedBlock b → IsRight b.problem b.answer b.corner }
 {}
 
 /// And each answer that is right is accepted behind legal entries that settle every ticket, as a solve makes them.
 pub fn settled_is_accepted()
-    ensures { (b : Block) → IsAdmissible b.problem → Legal b.problem b.entries → AllSettled b.problem b.entries
+    ensures { (b : Certified) → IsAdmissible b.problem → Legal b.problem b.entries → AllSettled b.problem b.entries
         → IsRight b.problem b.answer b.corner → IsAcceptedBlock b }
 {}
 
 /// A block that was read is accepted exactly where all its checks hold.
 pub fn accepted_where_checks_hold()
-    ensures { (b : Block) → IsRead b → IsAcceptedBlock b ↔ All (Holds b) (checks b) }
+    ensures { (b : Certified) → IsRead b → IsAcceptedBlock b ↔ All (Holds b) (checks b) }
 {}
 
 /// A block that was read has a first fault exactly where it isn't accepted, and one alone.
 pub fn first_fault()
-    ensures some { (b : Block) → IsRead b → IsAcceptedBlock b ⊎ ((line : ℕ) × (reason : Reason) × IsFirstFault b line reason) }
-    ensures refuses { (b : Block) (line : ℕ) (reason : Reason) → IsRead b → IsFirstFault b line reason → IsAcceptedBlock b → ⊥ }
-    ensures one { (b : Block) (line other : ℕ) (reason why : Reason) → IsFirstFault b line reason → IsFirstFault b other why
+    ensures some { (b : Certified) → IsRead b → IsAcceptedBlock b ⊎ ((line : ℕ) × (reason : Reason) × IsFirstFault b line reason) }
+    ensures refuses { (b : Certified) (line : ℕ) (reason : Reason) → IsRead b → IsFirstFault b line reason → IsAcceptedBlock b → ⊥ }
+    ensures one { (b : Certified) (line other : ℕ) (reason why : Reason) → IsFirstFault b line reason → IsFirstFault b other why
         → (line ≡ other) × (reason ≡ why) }
 {}
 
 /// So it is with a certificate whose blocks were read: all are accepted, or it has a first fault.
 pub fn first_fault_of_all()
-    ensures some { (bs : List Block) → All IsRead bs
+    ensures some { (bs : List Certified) → All IsRead bs
         → All IsAcceptedBlock bs ⊎ ((line : ℕ) × (reason : Reason) × IsFirstFaultOf bs line reason) }
-    ensures refuses { (bs : List Block) (line : ℕ) (reason : Reason) → All IsRead bs → IsFirstFaultOf bs line reason
+    ensures refuses { (bs : List Certified) (line : ℕ) (reason : Reason) → All IsRead bs → IsFirstFaultOf bs line reason
         → All IsAcceptedBlock bs → ⊥ }
 {}

@@ -3,7 +3,7 @@
 
 mod basis;
 mod block;
-mod check;
+mod certificate;
 mod choice;
 mod division;
 mod entry;
@@ -19,7 +19,7 @@ mod step;
 mod tickets;
 mod verdict;
 
-pub use block::Block;
-pub use check::check_block;
+pub use block::check_block;
+pub use certificate::{Verdict, check};
 pub use fault::Fault;
 pub use reason::Reason;

@@ -13,11 +13,11 @@ ghost use Rattle.cert_check.specs.Sparse.{at, HasTable, IsClean, AreEntries};
 ghost use Rattle.cert_check.specs.Replay.{AreKept};
 ghost use Rattle.cert_check.specs.Answers.{IsAnswered, AreCorners, IsReplayed};
 
-use crate::block::Block;
 use crate::fault::Fault;
 use crate::reason::Reason;
 use crate::sparse::Sparse;
 use crate::step::step;
+use cert_grammar::Certified;
 use entry_code::{Reads, Terms};
 use mono_rank::RankTable;
 use mora_law::StepEnd;
@@ -110,7 +110,7 @@ fn is_end(readings: usize, j: usize, end: StepEnd) -> bool
 /// Checks reading `j` of entry `i`, at its line, and makes its step: the first fault, where there is one.
 fn check_reading(
     alloc: Global,
-    block: &Block,
+    block: &Certified,
     table: &RankTable,
     corners: &[u32],
     i: usize,
@@ -170,7 +170,7 @@ fn check_reading(
 /// there is one. Else the run's result is left.
 pub(crate) fn check_readings(
     alloc: Global,
-    block: &Block,
+    block: &Certified,
     table: &RankTable,
     corners: &[u32],
     i: usize,

@@ -13,8 +13,9 @@ use Rattle.cert_grammar.specs.Limits.{max_blocks}
 use Rattle.cert_grammar.specs.Blocks.{Block}
 use Rattle.cert_grammar.specs.Cert.{IsBlock, IsCert, cert_text}
 use Rattle.cert_grammar.specs.Form.{IsCertText}
-use Rattle.cert_grammar.specs.Certified.{Certified, entry_of, verdict_of, block_of, IsRunEntry, IsCertified, IsCertificate, certificate_text, problem_in, run_entry, answer_in, corner_in, certified_of}
-use Rattle.cert_grammar.proofs.Certified.{terms_again, answer_again, block_is, certified_is, block_again}
+use Rattle.cert_grammar.specs.declared.certified.Certified.{Certified}
+use Rattle.cert_grammar.specs.Certified.{entry_of, verdict_of, block_of, IsRunEntry, IsCertified, IsCertificate, certificate_text, problem_in, run_entry, answer_in, corner_in, certified_of}
+use Rattle.cert_grammar.proofs.CertifiedBlocks.{terms_again, answer_again, block_is, certified_is, block_again}
 use Rattle.cert_grammar.proofs.Refusals.{one_cert}
 
 -- generators are given back

@@ -9,6 +9,6 @@ pub mod Whole
 pub mod Texts
 pub mod Refusals
 pub mod Prefixes
-pub mod Certified
+pub mod CertifiedBlocks
 pub mod Certificates
 mod Examples

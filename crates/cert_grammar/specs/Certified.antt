@@ -12,6 +12,7 @@ use Rattle.entry_code.specs.declared.term.Term.{Term}
 use Rattle.entry_code.specs.Entry.{Entry as RunEntry}
 use Rattle.text_out.specs.declared.answer.Answer.{Answer}
 use Rattle.text_out.specs.declared.answer.Answer.TheVariants as answers
+use Rattle.cert_grammar.specs.declared.certified.Certified.{Certified}
 use Rattle.cert_grammar.specs.Limits.{max_blocks}
 use Rattle.cert_grammar.specs.Words.{Ring}
 use Rattle.cert_grammar.specs.Entries.{Entry}
@@ -19,15 +20,6 @@ use Rattle.cert_grammar.specs.declared.block.Verdict.{Verdict}
 use Rattle.cert_grammar.specs.declared.block.Verdict.TheVariants.{Fits, TooSmall}
 use Rattle.cert_grammar.specs.Blocks.{Block}
 use Rattle.cert_grammar.specs.Cert.{IsItem, IsReading, IsVerdict, cert_text}
-
--- a problem with the letters of its variables, the entries of a run with their terms by rank, an answer, and the highest
--- corner where one is named
-pub record Certified : Type 0 where
-  pub letters : List ℕ
-  pub problem : Problem
-  pub entries : List RunEntry
-  pub answer : Answer
-  pub corner : Option (List ℕ)
 
 -- ---- the block that says it
 -- the polynomial with these terms by rank

@@ -4,7 +4,8 @@
 ghost use Rattle.std.specs.Prelude.{◌≡◌, ◌≢◌, ℕ, ◌+◌, List, [], ◌++◌, length};
 ghost use Rattle.cert_grammar.specs.Blocks.{Block as CertBlock};
 ghost use Rattle.cert_grammar.specs.Cert.{IsCert, cert_text};
-ghost use Rattle.cert_grammar.specs.Certified.{Certified, IsCertificate, certificate_text};
+ghost use Rattle.cert_grammar.specs.declared.certified.Certified.{Certified};
+ghost use Rattle.cert_grammar.specs.Certified.{IsCertificate, certificate_text};
 ghost use Rattle.cert_grammar.specs.Form.{IsFormLine, IsCertText, line_count};
 
 /// A certificate has one text, and a text is that of one certificate.

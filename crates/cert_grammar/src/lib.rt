@@ -5,10 +5,12 @@
 #![tactic(auto)]
 
 mod block;
+mod certified;
 mod entry;
 pub mod laws;
 mod ring;
 
 pub use block::{Block, Fitting, Verdict};
+pub use certified::Certified;
 pub use entry::{Entry, Step};
 pub use ring::Ring;

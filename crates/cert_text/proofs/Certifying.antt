@@ -14,11 +14,12 @@ use Rattle.cert_grammar.specs.Words.{Ring}
 use Rattle.cert_grammar.specs.Entries.{Entry}
 use Rattle.cert_grammar.specs.Blocks.{Block}
 use Rattle.cert_grammar.specs.Cert.{IsEntry, IsBlock}
-use Rattle.cert_grammar.specs.Certified.{Certified, IsCertified, terms_by_rank, run_entry, block_of, certified_of}
+use Rattle.cert_grammar.specs.declared.certified.Certified.{Certified}
+use Rattle.cert_grammar.specs.Certified.{IsCertified, terms_by_rank, run_entry, block_of, certified_of}
 use Rattle.cert_grammar.specs.Lines.{Line}
 use Rattle.cert_grammar.specs.Reading.{block_at}
 use Rattle.cert_grammar.proofs.Parts.{block_form}
-use Rattle.cert_grammar.proofs.Certified.{problem_is, certified_is, block_again}
+use Rattle.cert_grammar.proofs.CertifiedBlocks.{problem_is, certified_is, block_again}
 use Rattle.cert_text.specs.Ranked.{IsRanked}
 
 -- one more member of which all is so

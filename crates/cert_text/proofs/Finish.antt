@@ -4,7 +4,8 @@ use Rattle.std.specs.List.{AllByRecursion}
 use Rattle.std.proofs.lemmas.List.{length-map}
 use Rattle.cert_grammar.specs.Limits.{max_blocks}
 use Rattle.cert_grammar.specs.Blocks.{Block}
-use Rattle.cert_grammar.specs.Certified.{Certified, IsCertified, IsCertificate, block_of, certificate_text}
+use Rattle.cert_grammar.specs.declared.certified.Certified.{Certified}
+use Rattle.cert_grammar.specs.Certified.{IsCertified, IsCertificate, block_of, certificate_text}
 use Rattle.cert_grammar.proofs.Certificates.{certificate_is, one_certificate}
 use Rattle.cert_grammar.specs.Lines.{Line, lines_of}
 use Rattle.cert_grammar.specs.Cert.{IsCert, cert_text}

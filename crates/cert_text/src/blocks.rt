@@ -7,11 +7,12 @@ ghost use Rattle.cert_grammar.specs.Cert.{numbered};
 ghost use Rattle.cert_text.specs.Gives.{Gives, next_is, with_items};
 ghost use Rattle.cert_grammar.specs.Reading.{block_at, blocks_at, cert_at};
 
-use crate::certificate::{Block, Cert};
+use crate::certificate::Cert;
 use crate::certify::certify;
 use crate::lines::Lines;
 use crate::members::is_numbered;
 use crate::stop::Stop;
+use cert_grammar::Certified;
 use std::alloc::Global;
 
 impl<'a> Lines<'a> {
@@ -26,7 +27,7 @@ impl<'a> Lines<'a> {
     }
 
     /// Takes the block of that number.
-    fn block(&mut self, alloc: Global, b: u32) -> Result<Block, Stop>
+    fn block(&mut self, alloc: Global, b: u32) -> Result<Certified, Stop>
         ensures read { Gives (λ x. block_of x) result self.new (block_at b self.old) }
         ensures certified { IfOk result IsCertified }
     {
@@ -36,7 +37,7 @@ impl<'a> Lines<'a> {
     }
 
     /// Takes the blocks behind the first one, and the last line. Nothing is reserved for them.
-    fn blocks(&mut self, alloc: Global, first: Block) -> Result<Vec<Block>, Stop>
+    fn blocks(&mut self, alloc: Global, first: Certified) -> Result<Vec<Certified>, Stop>
         requires { IsCertified first }
         ensures read { Gives (λ v. map block_of v.items) result self.new (with_items (block_of first ∷ []) (blocks_at 63 1 self.old)) }
         ensures certified { IfOk result (λ v. AllByRecursion IsCertified v.items) }

@@ -9,8 +9,7 @@ ghost use Rattle.cert_grammar.specs.Cert.{IsBlock};
 ghost use Rattle.cert_grammar.specs.Certified.{terms_by_rank, run_entry as entry_by_rank, answer_in, corner_in, certified_of};
 ghost use Rattle.cert_text.specs.Ranked.{IsRanked};
 
-use crate::certificate::Block;
-use cert_grammar::{Block as BlockLines, Entry as EntryLines, Verdict};
+use cert_grammar::{Block as BlockLines, Certified, Entry as EntryLines, Verdict};
 use entry_code::{Entries, Entry, Reading, Reads, Term, Terms};
 use local_order::Mono;
 use mono_rank::RankTable;
@@ -107,7 +106,7 @@ fn answer_of(verdict: Verdict) -> (Answer, Option<Mono>)
 }
 
 /// What the lines of a block certify.
-pub(crate) fn certify(alloc: Global, block: BlockLines) -> Result<Block, AllocError>
+pub(crate) fn certify(alloc: Global, block: BlockLines) -> Result<Certified, AllocError>
     requires { IsBlock block }
     ensures { IfOk result (λ b. b ≡ certified_of block) }
 {
@@ -121,5 +120,11 @@ pub(crate) fn certify(alloc: Global, block: BlockLines) -> Result<Block, AllocEr
     let entries = run_entries(alloc, &table, &lines)?;
     let (answer, corner) = answer_of(verdict);
     let problem = Problem::new(*ring.field(), n, d, Polys::from_vec(gens));
-    Ok(Block::new(letters, problem, entries, answer, corner))
+    Ok(Certified {
+        letters,
+        problem,
+        entries,
+        answer,
+        corner,
+    })
 }

@@ -20,7 +20,7 @@ mod verdict;
 mod words;
 mod write;
 
-pub use certificate::{Block, Cert};
+pub use certificate::Cert;
 pub use error::CertError;
 pub use read::read_cert;
 pub use write::{write_done, write_head, write_reading};

@@ -2,7 +2,8 @@
 
 ghost use Rattle.std.specs.Prelude.{◌≡◌, List, length, map, IfOk};
 ghost use Rattle.std.specs.List.{AllByRecursion};
-ghost use Rattle.cert_grammar.specs.Certified.{Certified, IsCertified, IsCertificate, block_of, certificate_text};
+ghost use Rattle.cert_grammar.specs.declared.certified.Certified.{Certified};
+ghost use Rattle.cert_grammar.specs.Certified.{IsCertified, IsCertificate, block_of, certificate_text};
 ghost use Rattle.cert_grammar.specs.Lines.{lines_of};
 ghost use Rattle.cert_text.specs.Gives.{Gives};
 ghost use Rattle.cert_grammar.specs.Reading.{cert_at, line_number};

@@ -19,8 +19,9 @@ use Rattle.cert_grammar.specs.Lines.{Line, line_text, text}
 use Rattle.cert_grammar.proofs.Refusals.{text-append}
 use Rattle.cert_grammar.specs.Cert.{IsEntry, IsBlock, numbered, vars_line, counted, alone, reads_lines, in_turn, entry_lines, verdict_lines, block_lines}
 use Rattle.cert_grammar.specs.Blocks.{Block}
-use Rattle.cert_grammar.specs.Certified.{Certified, AreTerms, IsRunEntry, IsCertified, entry_of, block_of, poly_by_rank}
-use Rattle.cert_grammar.proofs.Certified.{block_is}
+use Rattle.cert_grammar.specs.declared.certified.Certified.{Certified}
+use Rattle.cert_grammar.specs.Certified.{AreTerms, IsRunEntry, IsCertified, entry_of, block_of, poly_by_rank}
+use Rattle.cert_grammar.proofs.CertifiedBlocks.{block_is}
 use Rattle.cert_write.specs.Claim.{last_of}
 use Rattle.cert_write.specs.Parts.{IsWritable}
 use Rattle.cert_write.proofs.Steps.{behind_blanks}

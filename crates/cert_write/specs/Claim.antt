@@ -4,7 +4,7 @@ use Rattle.sparse_poly.specs.Ideal.{Problem}
 use Rattle.entry_code.specs.Entry.{Entry}
 use Rattle.text_out.specs.declared.answer.Answer.{Answer}
 use Rattle.text_out.specs.declared.answer.Answer.TheVariants.{Fits, TooSmall}
-use Rattle.cert_grammar.specs.Certified.{Certified}
+use Rattle.cert_grammar.specs.declared.certified.Certified.{Certified}
 
 -- the last member
 abbrev pub last_of : {A : Type 0} → List A → Option A

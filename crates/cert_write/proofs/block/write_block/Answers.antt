@@ -5,8 +5,9 @@ use Rattle.std.proofs.lemmas.List.{length-map}
 use Rattle.cert_grammar.specs.Lines.{text}
 use Rattle.cert_grammar.specs.Words.{Ring}
 use Rattle.cert_grammar.specs.Cert.{numbered, in_turn, entry_lines, verdict_lines}
-use Rattle.cert_grammar.specs.Certified.{Certified, entry_of, ring_of, block_of}
-use Rattle.cert_grammar.proofs.Certified.{block_is}
+use Rattle.cert_grammar.specs.declared.certified.Certified.{Certified}
+use Rattle.cert_grammar.specs.Certified.{entry_of, ring_of, block_of}
+use Rattle.cert_grammar.proofs.CertifiedBlocks.{block_is}
 use Rattle.cert_write.specs.Claim.{claim}
 use Rattle.cert_write.specs.Writes.{WritesOrStops}
 use Rattle.cert_write.proofs.Parts.{writable, front_is, front_lines, block_text}

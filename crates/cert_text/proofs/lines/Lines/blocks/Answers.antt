@@ -2,7 +2,8 @@ use Rattle.std.proofs.Common.{◌-◌, ◌+◌, List, [], ◌∷◌, map, sym, �
 use Rattle.std.specs.List.{AllByRecursion}
 use Rattle.std.proofs.lemmas.List.{map-append}
 use Rattle.cert_grammar.specs.Blocks.{Block as BlockLines}
-use Rattle.cert_grammar.specs.Certified.{Certified, IsCertified, block_of}
+use Rattle.cert_grammar.specs.declared.certified.Certified.{Certified}
+use Rattle.cert_grammar.specs.Certified.{IsCertified, block_of}
 use Rattle.cert_text.proofs.Certifying.{all-push}
 use Rattle.std.proofs.lemmas.Result.{err_from_is_err_and}
 use Rattle.cert_text.specs.Gives.{with_items}

@@ -10,7 +10,7 @@ use Rattle.cert_check.specs.Answers.{IsAnswered, IsPassed}
 use Rattle.cert_check.proofs.Answered.{answered_behind}
 use Rattle.cert_check.proofs.Faults.{fault_left}
 use Rattle.cert_check.proofs.Passed.{accepted_by, right_by}
-use Rattle.cert_check.proofs.check.check_block.Goals as goal
+use Rattle.cert_check.proofs.block.check_block.Goals as goal
 
 pub returns-in-Ok-2-clause-fault : goal.returns-in-Ok-2-clause-fault
 returns-in-Ok-2-clause-fault c =

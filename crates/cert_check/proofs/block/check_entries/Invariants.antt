@@ -5,7 +5,7 @@ use Rattle.mora_law.specs.Entries.{basis_of}
 use Rattle.cert_check.specs.Checks.{entry_line}
 use Rattle.cert_check.specs.Answers.{AreCorners}
 use Rattle.cert_check.proofs.Answered.{IsLeft}
-use Rattle.cert_check.proofs.check.check_entries.Given as goal
+use Rattle.cert_check.proofs.block.check_entries.Given as goal
 
 -- the checks of the entries so far hold, and their corners and lines are told
 abbrev pub invariant-loop-i : goal.invariant-loop-i

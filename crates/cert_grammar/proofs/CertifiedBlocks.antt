@@ -29,7 +29,8 @@ use Rattle.cert_grammar.specs.declared.block.Verdict.{Verdict}
 use Rattle.cert_grammar.specs.declared.block.Verdict.TheVariants.{Fits, TooSmall}
 use Rattle.cert_grammar.specs.Blocks.{Block}
 use Rattle.cert_grammar.specs.Cert.{IsEntry, IsRing, IsBlock, IsVerdict}
-use Rattle.cert_grammar.specs.Certified.{Certified, poly_by_rank, entry_of, verdict_of, ring_of, block_of, IsBefore, AreTerms, IsRunEntry, HasCorner, IsCertified, terms_by_rank, problem_in, run_entry, answer_in, corner_in, certified_of}
+use Rattle.cert_grammar.specs.declared.certified.Certified.{Certified}
+use Rattle.cert_grammar.specs.Certified.{poly_by_rank, entry_of, verdict_of, ring_of, block_of, IsBefore, AreTerms, IsRunEntry, HasCorner, IsCertified, terms_by_rank, problem_in, run_entry, answer_in, corner_in, certified_of}
 use Rattle.cert_grammar.proofs.Tools.{and_true}
 use Rattle.cert_grammar.proofs.RingWords.{letters_are, letters_test}
 

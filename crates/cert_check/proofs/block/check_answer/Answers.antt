@@ -5,7 +5,7 @@ use Rattle.cert_check.specs.Checks.{tickets, verdict, answer_checks}
 use Rattle.cert_check.specs.Answers.{IsAnswered}
 use Rattle.cert_check.proofs.Answered.{answered_next}
 use Rattle.cert_check.proofs.Faults.{fault_right, fault_here}
-use Rattle.cert_check.proofs.check.check_answer.Goals as goal
+use Rattle.cert_check.proofs.block.check_answer.Goals as goal
 
 pub returns-then-not-branch : goal.returns-then-not-branch
 returns-then-not-branch c = fault_here c.args.block.now tickets (verdict ∷ answer_checks c.args.block.now.answer) _ reasons.Unsettled

@@ -6,7 +6,7 @@ use Rattle.cert_check.proofs.Leaves.{corner_within}
 use Rattle.cert_check.proofs.Minimal.{members_many}
 use Rattle.cert_check.proofs.Passed.{count_fault, member_fault, highest_fault, stair_fault, all_hold}
 use Rattle.cert_check.proofs.Tables.{all_ranks}
-use Rattle.cert_check.proofs.check.check_fits.Goals as goal
+use Rattle.cert_check.proofs.block.check_fits.Goals as goal
 
 pub returns-then-len : goal.returns-then-len
 returns-then-len c = count_fault c.args.block.now c.args.basis.now c.args.stair.now _ c.requires.answer

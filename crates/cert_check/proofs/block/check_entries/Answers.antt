@@ -13,7 +13,7 @@ use Rattle.cert_check.proofs.BlockLines.{line_more, line_within, verdict_within}
 use Rattle.cert_check.proofs.Passing.{corner_none, covers_more, corners_first, corners_more}
 use Rattle.cert_check.proofs.Stored.{reads_are}
 use Rattle.cert_check.proofs.Tables.{all_ranks}
-use Rattle.cert_check.proofs.check.check_entries.Goals as goal
+use Rattle.cert_check.proofs.block.check_entries.Goals as goal
 
 pub check_entry-requires-clause-few : goal.check_entry-requires-clause-few
 check_entry-requires-clause-few c =
