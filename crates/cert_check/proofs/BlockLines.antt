@@ -1,4 +1,5 @@
 -- The lines of a block: each entry begins behind the one before it, and all are among the lines of the block.
+-- The lines of the entries so far are a sum, which grows by one number with each entry.
 use Rattle.std.proofs.Common.{◌≡◌, ℕ, ◌+◌, ◌<◌, ◌≤◌, List, length, map, take, sym, ◌∙◌, ap, arith}
 use Rattle.std.specs.Prelude.{sum}
 use Rattle.std.specs.List.{sum_by}

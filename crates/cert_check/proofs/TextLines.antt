@@ -1,4 +1,5 @@
 -- The lines that are counted of a block are those of its text, and a text has as many bytes as lines at least.
+-- Each part of the text has as many lines as members, or as are counted of each; every line ends with a byte of its own.
 use Rattle.std.proofs.Common.{◌≡◌, ℕ, suc, ◌+◌, ◌≤◌, List, [], ◌∷◌, ◌++◌, length, map, take, sym, ◌∙◌, ap, ap₂, arith, refl}
 use Rattle.std.specs.Prelude.{sum, codes}
 use Rattle.std.specs.List.{join_with_byte}
