@@ -1,6 +1,6 @@
 -- What a solve certifies is accepted: where the entries are legal and settle every ticket, a right answer passes each check.
 -- The start of each ticket is in the ideal, so plain division leaves nothing of it; the rest is the criterion, read the other way round.
-use Rattle.std.proofs.Common.{ℕ, ◌<◌, ◌⊎◌, List, length, Option, sym, ◌∙◌, arith, inl, inr}
+use Rattle.std.proofs.Common.{ℕ, ◌<◌, ◌↔◌, ◌⊎◌, List, length, Option, sym, ◌∙◌, arith, inl, inr}
 use Rattle.rank_algebra.specs.Ranks.{Ranks, IsRanks}
 use Rattle.rank_algebra.specs.Vector.{shift}
 use Rattle.rank_algebra.specs.Combination.{IsSpace}
@@ -16,7 +16,7 @@ use Rattle.mora_law.specs.Entries.{basis_of}
 use Rattle.mora_law.specs.Start.{start}
 use Rattle.mora_law.specs.Basis.{basis}
 use Rattle.mora_law.specs.Legal.{IsItemOf, Legal}
-use Rattle.mora_law.specs.Settled.{IsSettled, LeavesNothing, AllSettled}
+use Rattle.mora_law.specs.Settled.{HasEntry, IsSettled, LeavesNothing, AllSettled}
 use Rattle.mora_law.proofs.Ring.{ranks_are}
 use Rattle.mora_law.proofs.Legal.{entries_in, in_space, in_closed, in_gens}
 use Rattle.mora_law.proofs.SettledByRank.{settled_by_rank}
@@ -28,7 +28,7 @@ use Rattle.text_out.specs.declared.answer.Answer.{Answer}
 use Rattle.text_out.specs.declared.answer.Answer.TheVariants.{Fits, TooSmall}
 use Rattle.cert_grammar.specs.declared.certified.Certified.{Certified}
 use Rattle.cert_check.specs.Block.{terms_of_each}
-use Rattle.cert_check.specs.Accepted.{IsDivided, AreDivided, IsFirstFree, IsVerdict, IsFreeList, IsAfterFits, IsAcceptedBlock}
+use Rattle.cert_check.specs.Accepted.{IsDivided, AreDivided, OthersAreDivided, IsFirstFree, IsVerdict, IsFreeList, IsAfterFits, IsAcceptedBlock}
 use Rattle.cert_check.specs.Right.{IsRight}
 use Rattle.cert_check.proofs.Right.{corner_is_last}
 
@@ -106,6 +106,15 @@ module _ (P : Problem) (h : IsAdmissible P) (entries : List Entry) (legal : Lega
     stair_is_free s r.2,
   )
   after_of_right (TooSmall m) highest r = tt
+
+-- behind legal entries all tickets are divided where those without an entry are
+pub others_divided : (P : Problem) (entries : List Entry) → IsAdmissible P → Legal P entries → AreDivided P entries ↔ OthersAreDivided P entries
+others_divided P entries h legal = ((λ d item t l. inr (d item t l)), (λ f. divided P h entries legal (λ item t l. go item (f item t l))))
+  where
+    go : (item : Item) → HasEntry entries item ⊎ IsDivided P entries item → IsSettled P entries item ⊎ LeavesNothing (ranks_of_problem P) (generators_of P) entries item
+    go item (inl e) = inl (inr (inl e))
+    go item (inr (inl s)) = inl (inl s)
+    go item (inr (inr z)) = inr z
 
 -- legal entries that settle every ticket, with a right answer, are accepted
 pub settled_accepted : (b : Certified) → IsAdmissible b.problem → Legal b.problem b.entries → AllSettled b.problem b.entries → IsRight b.problem b.answer b.corner → IsAcceptedBlock b

@@ -10,7 +10,7 @@ use Rattle.mora_law.specs.Ring.{numbering_of, ranks_of_problem, generators_of}
 use Rattle.mora_law.specs.Entries.{corner, leads}
 use Rattle.mora_law.specs.Legal.{Legal}
 use Rattle.mora_law.specs.Tickets.{HasTicket, ticket_of, total}
-use Rattle.mora_law.specs.Settled.{IsSkipped, LeavesNothing}
+use Rattle.mora_law.specs.Settled.{IsSkipped, HasEntry, LeavesNothing}
 use Rattle.mora_law.specs.Basis.{basis}
 use Rattle.text_out.specs.declared.answer.Answer.{Answer}
 use Rattle.text_out.specs.declared.answer.Answer.TheVariants.{Fits, TooSmall}
@@ -28,6 +28,10 @@ IsDivided P entries item = IsSkipped P entries item ⊎ LeavesNothing (ranks_of_
 -- so it is with each ticket below the total
 abbrev pub AreDivided : Problem → List Entry → Type 0
 AreDivided P entries = (item : Item) → HasTicket (length P.gens) item → ticket_of (length P.gens) item < total (length P.gens) (length entries) → IsDivided P entries item
+
+-- the same but for tickets that have an entry
+abbrev pub OthersAreDivided : Problem → List Entry → Type 0
+OthersAreDivided P entries = (item : Item) → HasTicket (length P.gens) item → ticket_of (length P.gens) item < total (length P.gens) (length entries) → HasEntry entries item ⊎ IsDivided P entries item
 
 -- m is the greatest monomial of degree d that is a multiple of no lead
 pub record IsFirstFree (P : Problem) (entries : List Entry) (m : List ℕ) : Type 0 where

@@ -1,13 +1,15 @@
 //! The laws of accepted blocks. Each is a call that does nothing, and whose contract is the law.
 
 ghost use Rattle.std.specs.Prelude.{◌≡◌, ◌↔◌, ◌⊎◌, ℕ, List, All};
+ghost use Rattle.sparse_poly.specs.Ideal.{Problem as IdealProblem};
+ghost use Rattle.entry_code.specs.Entry.{Entry};
 ghost use Rattle.mora_law.specs.Ring.{IsAdmissible};
 ghost use Rattle.mora_law.specs.Legal.{Legal};
 ghost use Rattle.mora_law.specs.Settled.{AllSettled};
 ghost use Rattle.cert_check.specs.declared.reason.Reason.{Reason};
 ghost use Rattle.cert_grammar.specs.declared.certified.Certified.{Certified};
 ghost use Rattle.cert_check.specs.Block.{IsRead};
-ghost use Rattle.cert_check.specs.Accepted.{IsAcceptedBlock};
+ghost use Rattle.cert_check.specs.Accepted.{AreDivided, OthersAreDivided, IsAcceptedBlock};
 ghost use Rattle.cert_check.specs.Right.{IsRight};
 ghost use Rattle.cert_check.specs.Checks.{checks, Holds};
 ghost use Rattle.cert_check.specs.Fault.{IsFirstFault, IsFirstFaultOf};
@@ -21,6 +23,11 @@ pub fn accepted_is_right()
 pub fn settled_is_accepted()
     ensures { (b : Certified) → IsAdmissible b.problem → Legal b.problem b.entries → AllSettled b.problem b.entries
         → IsRight b.problem b.answer b.corner → IsAcceptedBlock b }
+{}
+
+/// Behind legal entries all tickets are divided where those without an entry are: a ticket that has an entry needs no division.
+pub fn tickets_with_entries()
+    ensures { (P : IdealProblem) (entries : List Entry) → IsAdmissible P → Legal P entries → AreDivided P entries ↔ OthersAreDivided P entries }
 {}
 
 /// A block that was read is accepted exactly where all its checks hold.
