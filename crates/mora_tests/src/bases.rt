@@ -2,11 +2,10 @@
 //! intermediates.
 
 ghost use Rattle.std.specs.Prelude.{◌≡◌, [], ◌∷◌, IfOk};
-ghost use Rattle.entry_code.specs.Entry.{entry_of, entry_at};
 ghost use Rattle.mora_law.specs.Examples.{kept_problem, kept_entries};
 
-use crate::build::{is_same, term};
-use entry_code::{Entries, Entry, Item, Reading, Term};
+use crate::build::{add_entry, are_same, ranked, term};
+use entry_code::{Entries, Item, Reading};
 use mono_rank::RankTable;
 use prime_field::Field;
 use sparse_poly::{Poly, Polys, Problem};
@@ -46,55 +45,43 @@ fn problem(alloc: Global) -> Result<Problem, Fail>
     Ok(Problem::new(field, 2, 4, gens))
 }
 
-/// x - x^2 - y^3, the first generator as it stands.
-fn first(alloc: Global) -> Result<Entry, AllocError>
-    ensures { IfOk result (λ e. entry_of e ≡ entry_at kept_entries 0) }
+/// x - x^2 - y^3, the first generator as it stands, and y^3, from the second generator by three steps.
+fn entries(alloc: Global) -> Result<Entries, AllocError>
+    ensures { IfOk result (λ e. e ≡ kept_entries) }
 {
-    let mut entry = Entry::room(alloc, 15)?;
-    entry.reads.push(Reading {
+    let mut entries = Entries::new(alloc);
+    let reading = Reading {
         known: 0,
         corner: 15,
-    })?;
-    entry.terms.push(Term { rank: 1, coef: 1 })?;
-    entry.terms.push(Term {
-        rank: 3,
-        coef: 32002,
-    })?;
-    entry.terms.push(Term {
-        rank: 9,
-        coef: 32002,
-    })?;
-    Ok(entry)
-}
-
-/// y^3, from the second generator by three steps.
-fn second(alloc: Global) -> Result<Entry, AllocError>
-    ensures { IfOk result (λ e. entry_of e ≡ entry_at kept_entries 1) }
-{
-    let mut entry = Entry::room(alloc, 15)?;
-    entry.item = Item::Generator(1);
-    let reading = Reading {
+    };
+    let terms = [ranked(1, 1), ranked(3, 32002), ranked(9, 32002)];
+    add_entry(alloc, &mut entries, Item::Generator(0), &[reading], &terms)?;
+    let again = Reading {
         known: 1,
         corner: 15,
     };
-    entry.reads.push(reading)?;
-    entry.reads.push(reading)?;
-    entry.reads.push(reading)?;
-    entry.terms.push(Term { rank: 9, coef: 1 })?;
-    Ok(entry)
+    let reads = [again, again, again];
+    add_entry(
+        alloc,
+        &mut entries,
+        Item::Generator(1),
+        &reads,
+        &[ranked(9, 1)],
+    )?;
+    Ok(entries)
+}
+
+/// The reduced basis.
+fn basis(alloc: Global) -> Result<Polys, Fail> {
+    let problem = problem(alloc)?;
+    let table = RankTable::new(alloc, 2, 4)?;
+    let entries = entries(alloc)?;
+    Ok(reduced(alloc, &problem, &table, &entries)?)
 }
 
 #[test]
 fn tails_are_reduced(rt: HostRuntime) -> Result<(), Fail> {
-    let alloc = rt.alloc();
-    let problem = problem(alloc)?;
-    let table = RankTable::new(alloc, 2, 4)?;
-    let mut entries = Entries::new(alloc);
-    entries.push(first(alloc)?)?;
-    entries.push(second(alloc)?)?;
-    let basis = reduced(alloc, &problem, &table, &entries)?;
-    assert_eq!(rt; basis.len(), 2);
-    assert!(rt; is_same(basis.get(0), &[([1, 0], 1)]));
-    assert!(rt; is_same(basis.get(1), &[([0, 3], 1)]));
+    let basis = basis(rt.alloc())?;
+    assert!(rt; are_same(&basis, &[&[([1, 0], 1)], &[([0, 3], 1)]]));
     Ok(())
 }

@@ -10,14 +10,24 @@ use std::test::Fail;
 // x^2
 const RANK: u32 = 3;
 
-/// A polynomial that begins with x.
-fn summary(top_degree: u32) -> Summary {
-    Summary {
-        lead: 1,
-        lead_degree: 1,
-        top_degree,
-    }
-}
+// polynomials that begin with x, of greatest degree 1, 2 and 3
+const LINE: Summary = Summary {
+    lead: 1,
+    lead_degree: 1,
+    top_degree: 1,
+};
+
+const CONIC: Summary = Summary {
+    lead: 1,
+    lead_degree: 1,
+    top_degree: 2,
+};
+
+const CUBIC: Summary = Summary {
+    lead: 1,
+    lead_degree: 1,
+    top_degree: 3,
+};
 
 /// Whether this can be the summary of a polynomial.
 fn is_summary(table: &RankTable, s: Summary) -> bool
@@ -57,34 +67,27 @@ fn ecart_of(s: Summary) -> Option<u32> {
     Some(ecart(s))
 }
 
+/// Entries, intermediates, and what is chosen of them.
+const CHOICES: &[(&[Summary], &[Summary], Option<Choice>)] = &[
+    // the least ecart comes first
+    (&[CUBIC], &[LINE], Some(Choice::Kept(0))),
+    // on a tie entries come first, and of them the first one
+    (&[LINE], &[LINE], Some(Choice::Entry(0))),
+    (&[CONIC, LINE, LINE], &[], Some(Choice::Entry(1))),
+    // none where no lead divides
+    (&[], &[], None),
+];
+
 #[test]
-fn the_least_ecart_comes_first(rt: HostRuntime) -> Result<(), Fail> {
+fn choices(rt: HostRuntime) -> Result<(), Fail> {
     let table = RankTable::new(rt.alloc(), 2, 4)?;
-    assert_eq!(rt; ecart_of(summary(3)), Some(2));
-    assert_eq!(rt;
-        chosen(&table, &[summary(3)], &[summary(1)])?,
-        Some(Choice::Kept(0))
-    );
+    for (list, kept, want) in CHOICES {
+        assert!(rt; chosen(&table, list, kept)? == *want);
+    }
     Ok(())
 }
 
 #[test]
-fn on_a_tie_entries_come_first(rt: HostRuntime) -> Result<(), Fail> {
-    let table = RankTable::new(rt.alloc(), 2, 4)?;
-    assert_eq!(rt;
-        chosen(&table, &[summary(1)], &[summary(1)])?,
-        Some(Choice::Entry(0))
-    );
-    assert_eq!(rt;
-        chosen(&table, &[summary(2), summary(1), summary(1)], &[])?,
-        Some(Choice::Entry(1))
-    );
-    Ok(())
-}
-
-#[test]
-fn none_where_no_lead_divides(rt: HostRuntime) -> Result<(), Fail> {
-    let table = RankTable::new(rt.alloc(), 2, 4)?;
-    assert_eq!(rt; chosen(&table, &[], &[])?, None);
-    Ok(())
+fn ecarts(rt: HostRuntime) {
+    assert!(rt; ecart_of(CUBIC) == Some(2));
 }

@@ -1,11 +1,10 @@
 //! The reduced basis of the partial derivatives of x^2*y^2 + x^5 + y^5 modulo degree 7, from four entries with one reading each.
 
-ghost use Rattle.std.specs.Prelude.{◌≡◌, [], ◌∷◌, IfOk};
-ghost use Rattle.entry_code.specs.Entry.{entry_of};
+ghost use Rattle.std.specs.Prelude.{◌≡◌, [], ◌∷◌, ◌++◌, IfOk, OnOk};
 ghost use Rattle.mora_law.specs.Examples.{reading, entry, curve_problem, curve_entries};
 
-use crate::build::{is_same, term};
-use entry_code::{Entries, Entry, Item, Reading, Term};
+use crate::build::{Written, add_entry, are_same, ranked, term};
+use entry_code::{Entries, Item, Reading, Term};
 use mono_rank::RankTable;
 use prime_field::Field;
 use sparse_poly::{Poly, Polys, Problem};
@@ -42,30 +41,23 @@ fn problem(alloc: Global) -> Result<Problem, Fail>
     Ok(Problem::new(field, 2, 6, gens))
 }
 
-/// An entry of one reading and one term.
-fn monomial(alloc: Global, item: Item, known: u32, rank: u32) -> Result<Entry, AllocError>
-    ensures { IfOk result (λ e. entry_of e ≡ entry item (reading known 28 ∷ []) (record { rank = rank; coef = 1 } ∷ [])) }
-{
-    let mut made = Entry::room(alloc, 28)?;
-    made.item = item;
-    made.reads.push(Reading { known, corner: 28 })?;
-    made.terms.push(Term { rank, coef: 1 })?;
-    Ok(made)
-}
-
-/// An entry of one reading and two terms.
-fn binomial(
+/// Puts the entry of an item with one reading, which knows so many entries, behind the others.
+fn add(
     alloc: Global,
+    entries: &mut Entries,
     item: Item,
     known: u32,
-    rank: u32,
-    last: Term,
-) -> Result<Entry, AllocError>
-    ensures { IfOk result (λ e. entry_of e ≡ entry item (reading known 28 ∷ []) (record { rank = rank; coef = 1 } ∷ last ∷ [])) }
+    terms: &[Term],
+) -> Result<(), AllocError>
+    ensures { OnOk result (entries.new ≡ entries.old ++ entry item (reading known 28 ∷ []) terms.now ∷ []) }
 {
-    let mut made = monomial(alloc, item, known, rank)?;
-    made.terms.push(last)?;
-    Ok(made)
+    add_entry(
+        alloc,
+        entries,
+        item,
+        &[Reading { known, corner: 28 }],
+        terms,
+    )
 }
 
 /// The entries of a run of the criterion: the generators made monic, x^5 - y^5 and y^6.
@@ -74,32 +66,13 @@ fn entries(alloc: Global) -> Result<Entries, AllocError>
 {
     // x*y^2 and x^2*y have the ranks 8 and 7.
     let mut entries = Entries::new(alloc);
-    entries.push(binomial(
-        alloc,
-        Item::Generator(0),
-        0,
-        8,
-        Term {
-            rank: 10,
-            coef: 16004,
-        },
-    )?)?;
-    entries.push(binomial(
-        alloc,
-        Item::Generator(1),
-        1,
-        7,
-        Term {
-            rank: 14,
-            coef: 16004,
-        },
-    )?)?;
-    let last = Term {
-        rank: 20,
-        coef: 32002,
-    };
-    entries.push(binomial(alloc, Item::Pair(0, 1), 2, 15, last)?)?;
-    entries.push(monomial(alloc, Item::Pair(1, 2), 3, 27)?)?;
+    let by_x = [ranked(8, 1), ranked(10, 16004)];
+    let by_y = [ranked(7, 1), ranked(14, 16004)];
+    let pair = [ranked(15, 1), ranked(20, 32002)];
+    add(alloc, &mut entries, Item::Generator(0), 0, &by_x)?;
+    add(alloc, &mut entries, Item::Generator(1), 1, &by_y)?;
+    add(alloc, &mut entries, Item::Pair(0, 1), 2, &pair)?;
+    add(alloc, &mut entries, Item::Pair(1, 2), 3, &[ranked(27, 1)])?;
     Ok(entries)
 }
 
@@ -111,13 +84,16 @@ fn basis(alloc: Global) -> Result<Polys, Fail> {
     Ok(reduced(alloc, &problem, &table, &entries)?)
 }
 
+const BASIS: &[&[Written]] = &[
+    &[([2, 1], 1), ([0, 4], 16004)],
+    &[([1, 2], 1), ([4, 0], 16004)],
+    &[([5, 0], 1), ([0, 5], 32002)],
+    &[([0, 6], 1)],
+];
+
 #[test]
 fn leads_fall(rt: HostRuntime) -> Result<(), Fail> {
     let basis = basis(rt.alloc())?;
-    assert_eq!(rt; basis.len(), 4);
-    assert!(rt; is_same(basis.get(0), &[([2, 1], 1), ([0, 4], 16004)]));
-    assert!(rt; is_same(basis.get(1), &[([1, 2], 1), ([4, 0], 16004)]));
-    assert!(rt; is_same(basis.get(2), &[([5, 0], 1), ([0, 5], 32002)]));
-    assert!(rt; is_same(basis.get(3), &[([0, 6], 1)]));
+    assert!(rt; are_same(&basis, BASIS));
     Ok(())
 }

@@ -1,8 +1,5 @@
-use Rattle.std.proofs.Common.{◌∙◌}
-use Rattle.mora_tests.proofs.Pushed.{one_more}
+use Rattle.std.proofs.Common.{refl}
 use Rattle.mora_tests.proofs.jacobian.entries.Goals as goal
 
 pub returns : goal.returns
-returns c =
-    c.in_ok-push-4.ensures.ok
-    ∙ one_more (c.in_ok-push-3.ensures.ok ∙ one_more (c.in_ok-push-2.ensures.ok ∙ one_more (c.in_ok-push.ensures.ok ∙ one_more c.new-entries.ensures c.in_ok-binomial.ensures) c.in_ok-binomial-2.ensures) c.in_ok-binomial-3.ensures) c.in_ok-monomial.ensures
+returns c = rw c.in_ok-add-4.ensures (rw c.in_ok-add-3.ensures (rw c.in_ok-add-2.ensures (rw c.in_ok-add.ensures (rw c.new-entries.ensures (rw c.ranked.ensures (rw c.ranked-2.ensures (rw c.ranked-3.ensures (rw c.ranked-4.ensures (rw c.ranked-5.ensures (rw c.ranked-6.ensures (rw c.ranked-7.ensures refl)))))))))))
