@@ -259,27 +259,6 @@ fn worked_scripts(rt: HostRuntime) -> Result<(), Fail> {
     Ok(())
 }
 
-const USAGE: &[u8] =
-    b"usage: lstd solve [--workers W] [--cert PATH] | lstd check | lstd bench K [--workers W] [--cert PATH]\n";
-
-/// Whether the words are answered by the usage line, where no read succeeds.
-fn is_usage<R: Threads + Sync>(rt: &R, alloc: Global, words: &[&str]) -> Result<bool, Fail> {
-    let (status, out) = run(rt, alloc, words, b"", &[0], 1000)?;
-    Ok(status == Status::Usage && out.bytes() == USAGE)
-}
-
-/// Words that ask for nothing that is built.
-const OTHER_WORDS: [&[&str]; 4] = [&[], &["check"], &["solve", "solve"], &["solve "]];
-
-#[test]
-fn words(rt: HostRuntime) -> Result<(), Fail> {
-    // the source isn't read, so its failing read isn't met
-    for words in OTHER_WORDS {
-        assert!(rt; is_usage(&rt, rt.alloc(), words)?);
-    }
-    Ok(())
-}
-
 #[test]
 fn faults(rt: HostRuntime) -> Result<(), Fail> {
     // a read that fails in mid-script, and a sink that is full in mid-answer

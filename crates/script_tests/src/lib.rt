@@ -11,3 +11,5 @@ mod reading;
 mod run;
 #[cfg(test)]
 mod singularities;
+#[cfg(test)]
+mod words;
