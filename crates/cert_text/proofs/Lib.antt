@@ -4,7 +4,6 @@ pub mod BlockReads
 pub mod LineReads
 pub mod StairReads
 pub mod Loops
-pub mod Writing
 pub mod Finish
 pub mod RingReads
 pub mod Certifying

@@ -2,5 +2,4 @@ pub mod WordsLeft
 pub mod Cuts
 pub mod Gives
 pub mod Answers
-pub mod Writes
 pub mod Ranked

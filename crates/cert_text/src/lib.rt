@@ -1,8 +1,7 @@
-//! The text of certificates, read and written.
+//! Reading the text of certificates.
 //!
 //! A text is a certificate exactly where `cert_grammar` says so; `read_cert` gives it, or the first line that no
-//! certificate has. `specs/` says what calls answer: `Answers` of `read_cert`, `Writes` of those that write; `Gives` of
-//! the calls that read a part.
+//! certificate has. `specs/` says what calls answer: `Answers` of `read_cert`, `Gives` of the calls that read a part.
 #![tactic(auto)]
 
 mod blocks;
@@ -18,9 +17,7 @@ mod stop;
 mod vars;
 mod verdict;
 mod words;
-mod write;
 
 pub use certificate::Cert;
 pub use error::CertError;
 pub use read::read_cert;
-pub use write::{write_done, write_head, write_reading};
