@@ -1,6 +1,6 @@
 -- What is due after each part of the call. The reader's answer gives the tree or the first refusal, the blocks give the verdict
 -- and the text; a source that tells its bytes gave all of them, so a script within the limits is answered.
-use Rattle.std.proofs.Common.{◌≡◌, ◌⊎◌, inl, inr, ℕ, List, [], ◌≤◌, ◌<◌, length, refl, Bool, true, false, if◌then◌else◌, Some, None, Result, Ok, Err, ap, sym, ◌∙◌, arith, length-append, IfSome, subst}
+use Rattle.std.proofs.Common.{◌≡◌, ◌⊎◌, inl, inr, ℕ, List, [], ◌++◌, ◌≤◌, ◌<◌, length, refl, Bool, true, false, if◌then◌else◌, Some, None, Result, Ok, Err, ap, sym, ◌∙◌, arith, length-append, IfSome, subst}
 use Rattle.std.proofs.KnownBytes.{Consumes-all}
 use Rattle.std.specs.Bool.{OnTrue, OnFalse}
 use Rattle.std.specs.declared.option.Option.{Option}
@@ -23,10 +23,10 @@ use Rattle.local_std.specs.declared.outcome.Status.TheVariants.{Fits, Rejected, 
 use Rattle.local_std.specs.Words.{Request, solve, bench, Asks, InGrammar}
 use Rattle.local_std.specs.Endings.{HasText, IsAnswered}
 use Rattle.local_std.specs.Lent.{Lent, IsUntouched, HasFailed, HasGiven}
-use Rattle.local_std.specs.Answer.{IsAnswer, AllFit, SomeIsSmall, IsVerdict}
+use Rattle.local_std.specs.Answer.{IsAnswer, IsCertificate, AllFit, SomeIsSmall, IsVerdict, Solves}
 use Rattle.local_std.specs.Texts.{usage_line, too_long_line, refusal_line}
 use Rattle.local_std.specs.Scripts.{IsScriptOf, IsTooLong, IsRefused}
-use Rattle.local_std.specs.Due.{limit_of, RequestDue, FailsToRead, Offers, Admits, Served, Due, IsUncertified, IsCut, Ends}
+use Rattle.local_std.specs.Due.{SolvesBehind, limit_of, RequestDue, FailsToRead, Offers, Admits, Served, Due, IsUncertified, IsCut, Ends}
 
 -- the greatest number of bytes of a script that is to be solved
 abbrev script_limit : ℕ
@@ -71,21 +71,23 @@ module _ (bytes : List ℕ) (few : length bytes ≤ script_limit) where
     script_is : IsScriptOf script_limit bytes tree
     script_is = record { few = few; is_script = is; only = λ other o. script_once bytes other tree o is }
 
-    -- the verdict that the flag gives
-    verdict_of : (s : Script) (fits : Bool) → OnTrue fits (AllFit s s.commands) → OnFalse fits (SomeIsSmall s s.commands) → IsVerdict s (if fits then Fits else TooSmall)
-    verdict_of s true fit small = fit
-    verdict_of s false fit small = small
+    -- What answers the script is due for the bytes.
+    pub due : (s : Script) → s ≡ meaning tree → (status : Status) (text proof : List ℕ) → Solves s status text proof → RequestDue solve bytes status text proof
+    due s e status text proof h = inr (record { tree = tree; script = script_is; answer = subst (λ z. Solves z status text proof) e h })
 
-    pub solved : (s : Script) → s ≡ meaning tree → (fits : Bool) → OnTrue fits (AllFit s s.commands) → OnFalse fits (SomeIsSmall s s.commands) → (text : List ℕ) → IsAnswer s text → RequestDue solve bytes (if fits then Fits else TooSmall) text []
-    solved s e fits fit small text answer = inr (record {
-      tree = tree;
-      script = script_is;
-      answer = record {
-        verdict = subst (λ z. IsVerdict z (if fits then Fits else TooSmall)) e (verdict_of s fits fit small);
-        answer = subst (λ z. IsAnswer z text) e answer;
-        certificate = refl;
-      };
-    })
+-- the verdict that the flag gives
+verdict_of : (s : Script) (fits : Bool) → OnTrue fits (AllFit s s.commands) → OnFalse fits (SomeIsSmall s s.commands) → IsVerdict s (if fits then Fits else TooSmall)
+verdict_of s true fit small = fit
+verdict_of s false fit small = small
+
+-- The blocks of all commands, the flag and the certificate answer a script.
+pub solves : (s : Script) (fits : Bool) → OnTrue fits (AllFit s s.commands) → OnFalse fits (SomeIsSmall s s.commands) → (text proof : List ℕ) → IsAnswer s text → IsCertificate s proof →
+    Solves s (if fits then Fits else TooSmall) text proof
+solves s fits fit small text proof answer certificate = record { verdict = verdict_of s fits fit small; answer = answer; certificate = certificate }
+
+-- Behind nothing stands the answer itself.
+pub behind_nothing : (front : List ℕ) → front ≡ [] → (s : Script) (status : Status) (text proof : List ℕ) → SolvesBehind front s status text proof → Solves s status text proof
+behind_nothing front none s status text proof (blocks, h, spelled) = subst (λ (z : List ℕ). Solves s status z proof) (sym (spelled ∙ ap (λ (z : List ℕ). z ++ blocks) none)) h
 
 -- a verdict comes with a text
 pub verdict_text : (s : Script) (status : Status) → IsVerdict s status → HasText status
@@ -98,11 +100,6 @@ verdict_text s Memory v = v
 verdict_text s ReadFault v = v
 verdict_text s WriteFault v = v
 
--- what is due for a script comes with a text
-pub text_due : (input : List ℕ) (status : Status) (text proof : List ℕ) → RequestDue solve input status text proof → HasText status
-text_due input status text proof (inl unread) = subst HasText (sym unread.refused) tt
-text_due input status text proof (inr read) = verdict_text (meaning read.tree) status read.answer.verdict
-
 -- ---- what is due for a request
 module _ {S : Type 0} (source : Lent S) where
   -- more bytes than a script may have are refused by the line for them
@@ -114,8 +111,8 @@ module _ {S : Type 0} (source : Lent S) where
   }
 
   -- what is due for the bytes that were read is due
-  pub served : (bytes : List ℕ) → HasGiven source script_limit bytes → (status : Status) (text : List ℕ) → RequestDue solve bytes status text [] → Served solve source status text []
-  served bytes gave status text is_due = record { input = bytes; reads = gave; is_due = is_due }
+  pub served : (bytes : List ℕ) → HasGiven source script_limit bytes → (status : Status) (text proof : List ℕ) → RequestDue solve bytes status text proof → Served solve source status text proof
+  served bytes gave status text proof is_due = record { input = bytes; reads = gave; is_due = is_due }
 
 -- words that ask for nothing: the usage line is due
 pub misused : {S : Type 0} (words : List (List ℕ)) (source : Lent S) → IsUntouched source → (InGrammar words → ⊥) → Due words source Usage usage_line []

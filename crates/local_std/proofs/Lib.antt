@@ -9,3 +9,5 @@ mod Requests
 mod Pieces
 mod BenchScripts
 mod Benches
+mod Certified
+pub mod Certificates

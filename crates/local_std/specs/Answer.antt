@@ -1,5 +1,6 @@
 -- The answer to a script. It is defined by the problems of its commands.
 use Rattle.std.specs.Prelude.{◌≡◌, ℕ, ◌+◌, List, [], ◌∷◌, ◌++◌, length, map, All, Contains}
+use Rattle.std.specs.List.{AllZip}
 use Rattle.sparse_poly.specs.Poly.{Poly}
 use Rattle.sparse_poly.specs.Ideal.{Problem, ring, Fits, IsFirstMissing, IsReducedBasis, IsStaircase}
 use Rattle.sparse_poly.specs.Jacobian.{jacobian_problem, tjurina_problem}
@@ -14,6 +15,11 @@ use Rattle.local_std.specs.declared.outcome.Status.TheVariants as statuses
 use Rattle.text_out.specs.declared.answer.Answer.{Answer}
 use Rattle.text_out.specs.declared.answer.Answer.TheVariants as answers
 use Rattle.text_out.specs.Block.{block}
+use Rattle.mora_law.specs.Legal.{Legal}
+use Rattle.mora_law.specs.Settled.{AllSettled}
+use Rattle.cert_grammar.specs.declared.certified.Certified.{Certified}
+use Rattle.cert_grammar.specs.Certified.{IsCertificate as IsCertificateOf, certificate_text}
+use Rattle.cert_write.specs.Claim.{corner_of}
 
 -- The problem of a word that is asked of a function: that of its Milnor number or of its Tjurina number. The other words are asked of
 -- none, and have a problem without generators.
@@ -52,9 +58,23 @@ AreBlocks s index (c ∷ cs) text =
 abbrev pub IsAnswer : Script → List ℕ → Type 0
 IsAnswer s text = AreBlocks s 1 s.commands text
 
--- the text for `cert`: there is none yet
-abbrev pub IsCertificate : Script → List ℕ → Type 0
-IsCertificate s proof = proof ≡ []
+-- ---- the certificate
+-- What is certified of a command: the problem, in the script's letters, entries that are legal for it and settle every ticket, the
+-- answer, and its highest corner.
+pub record Certifies (s : Script) (c : Command) (x : Certified) : Type 0 where
+  pub letters : x.letters ≡ s.names
+  pub problem : x.problem ≡ problem_of s c
+  pub legal : Legal x.problem x.entries
+  pub settled : AllSettled x.problem x.entries
+  pub answer : IsAnswerOf x.problem x.answer
+  pub corner : x.corner ≡ corner_of x.answer
+
+-- the text for `cert`: a certificate with a block for each command, in order
+pub record IsCertificate (s : Script) (proof : List ℕ) : Type 0 where
+  pub blocks : List Certified
+  pub is : IsCertificateOf blocks
+  pub each : AllZip (Certifies s) s.commands blocks
+  pub spelled : proof ≡ certificate_text blocks
 
 -- ---- the status
 -- the degree fits for each of some commands

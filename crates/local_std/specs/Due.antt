@@ -1,6 +1,7 @@
 -- Which status and which texts are due, and what a call leaves.
 use Rattle.std.specs.Prelude.{◌≡◌, ℕ, ◌≤◌, ◌⊎◌, List, [], ◌++◌, length, take, Some}
 use Rattle.script_grammar.specs.Limits.{max_script}
+use Rattle.script_grammar.specs.declared.script.Script.{Script}
 use Rattle.script_grammar.specs.Trees.{Tree}
 use Rattle.script_grammar.specs.Valid.{IsScript}
 use Rattle.local_std.specs.declared.outcome.Status.{Status}
@@ -106,6 +107,17 @@ pub record IsUncertified {K C : Type 0} (D : Status → List ℕ → List ℕ �
 -- a sink failed: `cert`, after which `out` gets nothing, or else `out`
 abbrev pub IsUnwritten : {K C : Type 0} → (Status → List ℕ → List ℕ → Type 0) → Lent K → Lent C → Type 0
 IsUnwritten D out cert = IsUncertified D out cert ⊎ IsCut D out cert
+
+-- what answers a script stands behind a line
+abbrev pub SolvesBehind : List ℕ → Script → Status → List ℕ → List ℕ → Type 0
+SolvesBehind front s status text proof = (blocks : List ℕ) × Solves s status blocks proof × (text ≡ front ++ blocks)
+
+-- how a call ends that has nothing to read
+pub record Concludes {K C : Type 0} (D : Status → List ℕ → List ℕ → Type 0) (out : Lent K) (cert : Lent C) (status : Status) : Type 0 where
+  pub written : HasText status → IsWritten D out cert status
+  pub memory : status ≡ Memory → IsBrokenOff D out cert
+  pub write_fault : status ≡ WriteFault → IsUnwritten D out cert
+  pub no_read_fault : status ≡ ReadFault → ⊥
 
 -- how a request ends
 pub record Ends {S K C : Type 0} (request : Request) (source : Lent S) (out : Lent K) (cert : Lent C) (status : Status) : Type 0 where

@@ -9,3 +9,4 @@ pub mod Due
 pub mod View
 pub mod Solved
 pub mod Number
+pub mod Claims

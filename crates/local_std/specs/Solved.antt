@@ -1,6 +1,11 @@
 -- Problems that were solved.
-use Rattle.sparse_poly.specs.Ideal.{Problem}
+use Rattle.std.specs.Prelude.{◌≡◌, ℕ, List, Some, slice_get, filter_map, option_map}
+use Rattle.sparse_poly.specs.Ideal.{Problem, IsProblem}
+use Rattle.mora_law.specs.Legal.{Legal}
+use Rattle.mora_law.specs.Settled.{AllSettled}
 use Rattle.text_out.specs.Answers.{IsInRing}
+use Rattle.cert_grammar.specs.declared.certified.Certified.{Certified}
+use Rattle.cert_write.specs.Claim.{claim}
 use Rattle.local_std.specs.declared.question.Question.{Question}
 use Rattle.local_std.specs.declared.question.Question.TheVariants.{Given, Made}
 use Rattle.local_std.specs.declared.solved.Solved.{Solved}
@@ -11,7 +16,22 @@ abbrev pub problem_asked : Question → Problem
 problem_asked (Given problem) = problem.now
 problem_asked (Made problem) = problem
 
--- the answer is that of the problem, in its ring
+-- the entries are legal for the problem and settle every ticket, and the answer is that of the problem, in its ring
 pub record IsSolved (s : Solved) : Type 0 where
+  pub problem : IsProblem (problem_asked s.question)
+  pub legal : Legal (problem_asked s.question) s.entries
+  pub settled : AllSettled (problem_asked s.question) s.entries
   pub value : IsAnswerOf (problem_asked s.question) s.answer
   pub ring : IsInRing (problem_asked s.question).p (problem_asked s.question).n s.answer
+
+-- the problem was solved, and stands at this place
+abbrev pub IsPlaceOf : Problem → List Solved → ℕ → Type 0
+IsPlaceOf P solved place = (one : Solved) × (slice_get solved place ≡ Some one) × (problem_asked one.question ≡ P)
+
+-- what is claimed of a problem that was solved, in these letters
+abbrev pub claim_of : List ℕ → Solved → Certified
+claim_of letters one = claim letters (problem_asked one.question) one.entries one.answer
+
+-- what is claimed of those at these places
+abbrev pub claims_at : List ℕ → List Solved → List ℕ → List Certified
+claims_at letters solved places = filter_map (λ place. option_map (claim_of letters) (slice_get solved place)) places

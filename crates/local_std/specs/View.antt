@@ -1,9 +1,7 @@
 -- What the program's values stand for.
-use Rattle.std.specs.Prelude.{◌≡◌, ℕ, ◌≤◌, ◌⊎◌, List, take, string_bytes, if◌then◌else◌}
+use Rattle.std.specs.Prelude.{◌≡◌, ℕ, ◌≤◌, ◌⊎◌, List, take}
 use Rattle.local_std.specs.declared.outcome.Status.{Status}
-use Rattle.local_std.specs.declared.outcome.Status.TheVariants.{Fits, Input, TooSmall, WriteFault}
-use Rattle.local_std.specs.declared.reply.Reply.{Reply}
-use Rattle.local_std.specs.declared.reply.Reply.TheVariants.{Unanswered, Answered}
+use Rattle.local_std.specs.declared.outcome.Status.TheVariants.{WriteFault}
 use Rattle.local_std.specs.declared.words.Request.{Request as Asked}
 use Rattle.local_std.specs.declared.words.Request.TheVariants.{Solve, Bench}
 use Rattle.local_std.specs.Bench.{max_bench}
@@ -24,12 +22,3 @@ request_in (Bench k) = bench k
 abbrev pub IsNumbered : Request → Type 0
 IsNumbered solve = Unit {0}
 IsNumbered (bench k) = k ≤ max_bench
-
--- the status and the text of a reply
-abbrev pub status_of : Reply → Status
-status_of (Unanswered line) = Input
-status_of (Answered blocks) = if blocks.fits then Fits else TooSmall
-
-abbrev pub text_of : Reply → List ℕ
-text_of (Unanswered line) = line.bytes
-text_of (Answered blocks) = string_bytes blocks.text

@@ -4,7 +4,7 @@ ghost use Rattle.std.specs.Bool.{OnTrue, OnFalse};
 ghost use Rattle.local_order.specs.Shape.{count};
 ghost use Rattle.sparse_poly.specs.Shape.{shape_of};
 ghost use Rattle.mono_rank.specs.Rank.{mono_of_rank};
-ghost use Rattle.sparse_poly.specs.Ideal.{Problem as IdealProblem, Fits};
+ghost use Rattle.sparse_poly.specs.Ideal.{Problem as IdealProblem, IsProblem, Fits};
 ghost use Rattle.mora_law.specs.Legal.{Legal};
 ghost use Rattle.mora_law.specs.Settled.{AllSettled};
 ghost use Rattle.staircase.specs.Stair.{IsStairOf};
@@ -22,16 +22,19 @@ use std::alloc::{AllocError, Global};
 use tail_reduce::{lead_ranks, reduced};
 use text_out::{Answer, Monos};
 
-/// The answer of a problem's ideal, by runs of Mora's normal form.
-pub fn answer_of(alloc: Global, problem: &Problem) -> Result<Answer, AllocError>
-    ensures value { IfOk result (λ a. IsAnswerOf problem.now a) }
-    ensures ring { IfOk result (λ a. IsInRing problem.now.p problem.now.n a) }
+/// Entries of a problem, which are legal and settle every ticket, and the answer of its ideal, by runs of Mora's normal form.
+pub fn answer_of(alloc: Global, problem: &Problem) -> Result<(Entries, Answer), AllocError>
+    ensures problem { IfOk result (λ r. IsProblem problem.now) }
+    ensures legal { IfOk result (λ r. Legal problem.now r.0) }
+    ensures settled { IfOk result (λ r. AllSettled problem.now r.0) }
+    ensures value { IfOk result (λ r. IsAnswerOf problem.now r.1) }
+    ensures ring { IfOk result (λ r. IsInRing problem.now.p problem.now.n r.1) }
 {
     // A problem is within its limits, which its field is lent with.
     let _field = problem.field();
     let finished = run_plain(alloc, problem)?;
     let answer = answer_by(alloc, problem, &finished.entries)?;
-    Ok(answer)
+    Ok((finished.entries, answer))
 }
 
 /// The answer by legal entries that settle every ticket.

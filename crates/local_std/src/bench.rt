@@ -1,31 +1,26 @@
 // The bench: scripts that are made of a number.
-ghost use Rattle.std.specs.Prelude.{◌≡◌, ◌≤◌, ◌<◌, ◌++◌, [], decimal, codes, IfOk, string_bytes, if◌then◌else◌};
+ghost use Rattle.std.specs.Prelude.{◌≡◌, ◌≤◌, ◌<◌, ◌++◌, decimal, codes, IfOk, string_bytes};
 ghost use Rattle.local_std.specs.Bench.{max_bench, bench_script as script_of_bench, bench_line as line_of_bench};
-ghost use Rattle.local_std.specs.Words.{bench};
-ghost use Rattle.local_std.specs.Due.{RequestDue};
+ghost use Rattle.script_grammar.specs.Trees.{Tree};
+ghost use Rattle.script_grammar.specs.Valid.{IsScript};
+ghost use Rattle.script_grammar.specs.Meaning.{meaning};
+ghost use Rattle.ring_reader.specs.Coherent.{IsCoherent};
 
-use crate::block::Blocks;
-use crate::outcome::Status;
-use crate::reply::{Reply, reply_to};
 use itoa::Buffer;
+use ring_reader::{ReadError, Script, read_script};
 use std::alloc::{AllocError, Global};
 
-/// What answers a bench: the line with its number, and the blocks for its script.
-pub fn bench_blocks(alloc: Global, number: u16) -> Result<Blocks, AllocError>
+/// What the script of a number asks for.
+pub fn read_bench(alloc: Global, number: u16) -> Result<Script, AllocError>
     requires { number ≤ max_bench }
-    ensures { IfOk result (λ b. RequestDue (bench number) (script_of_bench number) (if b.fits then Status.Fits else Status.TooSmall) (string_bytes b.text) []) }
+    ensures found { IfOk result (λ s. (t : Tree) × IsScript (script_of_bench number) t × (s ≡ meaning t)) }
+    ensures coherent { IfOk result IsCoherent }
 {
     let script = bench_script(alloc, number)?;
-    let mut text = bench_line(alloc, number)?;
-    match reply_to(alloc, script.as_bytes())? {
-        Reply::Unanswered(_) => unreachable!(),
-        Reply::Answered(found) => {
-            text.push_str(&found.text)?;
-            Ok(Blocks {
-                fits: found.fits,
-                text,
-            })
-        }
+    match read_script(alloc, script.as_bytes()) {
+        Ok(read) => Ok(read),
+        Err(ReadError::Memory) => Err(AllocError),
+        Err(ReadError::At { .. }) => unreachable!(),
     }
 }
 
@@ -54,7 +49,7 @@ fn bench_script(alloc: Global, number: u16) -> Result<String, AllocError>
 }
 
 /// The line with a number.
-fn bench_line(alloc: Global, number: u16) -> Result<String, AllocError>
+pub fn bench_line(alloc: Global, number: u16) -> Result<String, AllocError>
     ensures { IfOk result (λ line. string_bytes line ≡ line_of_bench number) }
 {
     let mut line = String::from_str(alloc, "bench ")?;

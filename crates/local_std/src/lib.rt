@@ -7,12 +7,12 @@
 mod answer;
 mod bench;
 mod block;
+mod certificate;
 mod gate;
 pub mod laws;
 mod outcome;
 mod question;
 mod refusal;
-mod reply;
 mod same;
 mod solved;
 mod top;

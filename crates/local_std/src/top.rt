@@ -1,21 +1,27 @@
 // The top call.
-ghost use Rattle.std.specs.Prelude.{◌≡◌, ℕ, ◌≤◌, ◌⊎◌, List, map, string_bytes};
+ghost use Rattle.std.specs.Prelude.{◌≡◌, ℕ, ◌≤◌, ◌⊎◌, ◌++◌, List, map, string_bytes, IfOk};
 ghost use Rattle.local_std.specs.Words.{Request as Requested, Asks, solve, bench as bench_of};
 ghost use Rattle.local_std.specs.Bench.{max_bench};
 ghost use Rattle.local_std.specs.Endings.{HasText, IsAnswered};
 ghost use Rattle.local_std.specs.Lent.{lent, IsUntouched, HasFailed};
-ghost use Rattle.local_std.specs.Due.{Due, OnRequest, Offers, Admits, FailsToRead, HasReadSome, IsWritten, IsBrokenOff, IsUnwritten, Ends};
+ghost use Rattle.local_std.specs.Due.{Due, OnRequest, Offers, Admits, FailsToRead, HasReadSome, IsWritten, IsBrokenOff, IsUnwritten, SolvesBehind, Concludes, Ends};
+ghost use Rattle.ring_reader.specs.Coherent.{IsCoherent};
 ghost use Rattle.local_std.specs.View.{Wrote, IsNumbered, request_in};
-ghost use Rattle.local_std.specs.Texts.{usage_line};
-ghost use Rattle.local_std.specs.declared.outcome.Status.TheVariants.{Usage};
+ghost use Rattle.local_std.specs.Texts.{usage_line, refusal_line as line_of_refusal};
+ghost use Rattle.local_std.specs.declared.outcome.Status.TheVariants.{Input, Usage};
 
-use crate::bench::bench_blocks;
+use crate::bench::{bench_line, read_bench};
+use crate::block::blocks_of;
+use crate::certificate::write_certificate;
 use crate::gate::Gate;
 use crate::outcome::Status;
-use crate::reply::reply_to;
+use crate::refusal::refusal_line;
 use crate::words::{Request, request_of};
+use cert_write::CertWriteError;
 use io_edge::{ReadAllError, Sink, Source, read_all, write_all_counted};
-use std::alloc::Global;
+use ring_reader::{ReadError, Script, read_script};
+use script_grammar::ReadKind;
+use std::alloc::{AllocError, Global};
 use std::thread::Threads;
 
 /// Does all that the program does. The words leave out the program's name.
@@ -55,9 +61,6 @@ pub fn run_lstd<R: Threads + Sync, S: Source, K: Sink, C: Sink, G: Gate>(
         → (HasFailed (lent S.left S.faults source.old source.new) → ⊥)
         → (HasFailed (lent K.written K.faults out.old out.new) ⊎ HasFailed (lent C.written C.faults cert.old cert.new) → ⊥)
         → IsAnswered result }
-
-    // There are no certificates yet.
-    ensures uncertified { cert.new ≡ cert.old }
 {
     let _rt = rt;
     let _gate = gate;
@@ -85,9 +88,8 @@ fn serve<S: Source, K: Sink, C: Sink>(
     cert: &mut C,
 ) -> Status
     requires { IsNumbered (request_in request) }
-    ensures ends { Ends (request_in request) (lent S.left S.faults source.old source.new)
+    ensures { Ends (request_in request) (lent S.left S.faults source.old source.new)
         (lent K.written K.faults out.old out.new) (lent C.written C.faults cert.old cert.new) result }
-    ensures cert { cert.new ≡ cert.old }
 {
     match request {
         Request::Solve => solve(alloc, source, out, cert),
@@ -104,16 +106,17 @@ fn bench<S: Source, K: Sink, C: Sink>(
     cert: &mut C,
 ) -> Status
     requires { number ≤ max_bench }
-    ensures ends { Ends (bench_of number) (lent S.left S.faults source.now source.now)
+    ensures { Ends (bench_of number) (lent S.left S.faults source.now source.now)
         (lent K.written K.faults out.old out.new) (lent C.written C.faults cert.old cert.new) result }
-    ensures cert { cert.new ≡ cert.old }
 {
     let _source = source;
-    let _cert = cert;
-    let Ok(answer) = bench_blocks(alloc, number) else {
+    let Ok(line) = bench_line(alloc, number) else {
         return Status::Memory;
     };
-    written(out, answer.text.as_bytes(), answer.status())
+    let Ok(script) = read_bench(alloc, number) else {
+        return Status::Memory;
+    };
+    answered(alloc, &script, line, out, cert)
 }
 
 /// Answers a script.
@@ -123,21 +126,64 @@ fn solve<S: Source, K: Sink, C: Sink>(
     out: &mut K,
     cert: &mut C,
 ) -> Status
-    ensures ends { Ends solve (lent S.left S.faults source.old source.new)
+    ensures { Ends solve (lent S.left S.faults source.old source.new)
         (lent K.written K.faults out.old out.new) (lent C.written C.faults cert.old cert.new) result }
-    ensures cert { cert.new ≡ cert.old }
 {
-    let _cert = cert;
     let bytes = match read_all(alloc, source, Request::Solve.limit()) {
         Ok(bytes) => bytes,
         Err(ReadAllError::Failed) => return Status::ReadFault,
         Err(ReadAllError::Memory) => return Status::Memory,
         Err(ReadAllError::TooLong) => return written(out, b"input too long\n", Status::Input),
     };
-    match reply_to(alloc, &bytes) {
-        Err(_) => Status::Memory,
-        Ok(reply) => written(out, reply.text(), reply.status()),
+    let script = match read_script(alloc, &bytes) {
+        Ok(script) => script,
+        Err(ReadError::Memory) => return Status::Memory,
+        Err(ReadError::At { line, column, kind }) => return refused(out, line, column, kind),
+    };
+    answered(alloc, &script, String::new(alloc), out, cert)
+}
+
+/// Answers bytes that are refused there.
+fn refused<K: Sink>(out: &mut K, line: u32, column: u32, kind: ReadKind) -> Status
+    ensures { Wrote Input (line_of_refusal line column kind) (lent K.written K.faults out.old out.new) result }
+{
+    let text = refusal_line(line, column, kind);
+    written(out, text.as_str().as_bytes(), Status::Input)
+}
+
+/// Answers a script that was read: all commands are solved, the certificate is written, and then the blocks are, behind what
+/// stands in front.
+fn answered<K: Sink, C: Sink>(
+    alloc: Global,
+    script: &Script,
+    front: String,
+    out: &mut K,
+    cert: &mut C,
+) -> Status
+    requires { IsCoherent script.now }
+    ensures { Concludes (SolvesBehind (string_bytes front) script.now) (lent K.written K.faults out.old out.new)
+        (lent C.written C.faults cert.old cert.new) result }
+{
+    let Ok(blocks) = blocks_of(alloc, script) else {
+        return Status::Memory;
+    };
+    let Ok(text) = joined(front, &blocks.text) else {
+        return Status::Memory;
+    };
+    match write_certificate(alloc, cert, script, &blocks) {
+        Ok(()) => written(out, text.as_bytes(), blocks.status()),
+        Err(CertWriteError::Failed) => Status::WriteFault,
+        Err(CertWriteError::Memory) => Status::Memory,
     }
+}
+
+/// A text and the one behind it.
+fn joined(front: String, text: &String) -> Result<String, AllocError>
+    ensures { IfOk result (λ s. string_bytes s ≡ string_bytes front ++ string_bytes text.now) }
+{
+    let mut whole = front;
+    whole.push_str(text)?;
+    Ok(whole)
 }
 
 const USAGE: &[u8] =

@@ -1,21 +1,18 @@
-use Rattle.std.proofs.Common.{refl, [], string_bytes, if◌then◌else◌}
-use Rattle.local_std.specs.declared.outcome.Status.TheVariants.{Fits, TooSmall}
-use Rattle.local_std.specs.Bench.{bench_script}
+use Rattle.std.proofs.Common.{refl, string_bytes}
 use Rattle.local_std.specs.Words.{bench}
 use Rattle.local_std.specs.Lent.{lent}
-use Rattle.local_std.proofs.Ends.{ends_written}
-use Rattle.local_std.proofs.Benches.{bench_text, bench_served}
+use Rattle.local_std.specs.Due.{SolvesBehind}
+use Rattle.local_std.proofs.Ends.{ends_by}
+use Rattle.local_std.proofs.Benches.{bench_due, bench_served}
 use Rattle.local_std.proofs.top.bench.Goals as goal
 
-pub returns-clause-ends : goal.returns-clause-ends
-returns-clause-ends g c =
+pub returns : goal.returns
+returns g c =
     let k = c.args.number in
-    let answer = c.in-Ok.answer in
     let source = lent g.S.Source.left g.S.Source.faults c.args.source.now c.args.source.now in
-    let status = if answer.fits then Fits else TooSmall in
-    let due = c.in-Ok.ensures in
-    ends_written (bench k) source (lent g.K.Sink.written g.K.Sink.faults c.args.out.now c.written.new.out) (lent g.C.Sink.written g.C.Sink.faults c.args.cert.now c.args.cert.now) refl
-    status c.written.result (string_bytes answer.text)
-    (bench_text k (bench_script k) status (string_bytes answer.text) [] due)
-    (bench_served source k refl status (string_bytes answer.text) [] due)
-    (rw (c.status.ensures, c.as_bytes.ensures.value) at c.written.ensures)
+    let line = string_bytes c.in-Ok.line in
+    let script = c.in-Ok-read_bench.script in
+    let found = c.in-Ok-read_bench.ensures.found in
+    ends_by (bench k) source (lent g.K.Sink.written g.K.Sink.faults c.args.out.now c.answered.new.out) (lent g.C.Sink.written g.C.Sink.faults c.args.cert.now c.answered.new.cert)
+    (SolvesBehind line script) (λ s t p h. bench_served source k refl s t p (bench_due k c.requires found.0 found.1 script found.2 line c.in-Ok.ensures s t p h))
+    refl c.answered.result c.answered.ensures
