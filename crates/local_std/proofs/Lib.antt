@@ -5,7 +5,8 @@ pub mod Blocks
 pub mod Ends
 pub mod Dues
 pub mod OneText
-mod Requests
+mod Lines
+mod Readings
 mod Pieces
 mod BenchScripts
 mod Benches

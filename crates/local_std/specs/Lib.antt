@@ -10,3 +10,4 @@ pub mod View
 pub mod Solved
 pub mod Number
 pub mod Claims
+pub mod CertSink

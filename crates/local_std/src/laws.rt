@@ -6,7 +6,7 @@ ghost use Rattle.script_grammar.specs.Trees.{Tree};
 ghost use Rattle.script_grammar.specs.Valid.{IsScript};
 ghost use Rattle.local_std.specs.Answer.{IsAnswer};
 ghost use Rattle.local_std.specs.Bench.{max_bench, bench_script};
-ghost use Rattle.local_std.specs.Words.{Request, Asks};
+ghost use Rattle.local_std.specs.Words.{Request, Asks, HasPath};
 
 /// A script has one answer: at most one text answers what it asks.
 pub fn one_text()
@@ -21,4 +21,9 @@ pub fn bench_scripts()
 /// A list of words asks for one request at most.
 pub fn one_request()
     ensures { (words : List (List ℕ)) (request other : Request) → Asks words request → Asks words other → request ≡ other }
+{}
+
+/// A list of words names one path of a certificate at most.
+pub fn one_path()
+    ensures { (words : List (List ℕ)) (path other : List ℕ) → HasPath words path → HasPath words other → path ≡ other }
 {}

@@ -7,6 +7,7 @@
 mod answer;
 mod bench;
 mod block;
+mod cert_sink;
 mod certificate;
 mod gate;
 pub mod laws;
@@ -18,6 +19,8 @@ mod solved;
 mod top;
 mod words;
 
+pub use cert_sink::CertSink;
 pub use gate::{Gate, OpenGate};
 pub use outcome::Status;
 pub use top::run_lstd;
+pub use words::cert_path;

@@ -1,7 +1,7 @@
 //! The words of the command line, and the bench, through the top call in memory.
 
 use crate::run::run;
-use local_std::Status;
+use local_std::{Status, cert_path};
 use std::alloc::Global;
 use std::test::Fail;
 use std::thread::Threads;
@@ -68,15 +68,88 @@ const NOTHING: [&[&str]; 55] = [
     &["0", "bench"],
 ];
 
+/// A list of words that names the path of a certificate, and the path.
+struct Named {
+    words: &'static [&'static str],
+    path: &'static str,
+}
+
+const NAMED: [Named; 14] = [
+    Named {
+        words: &["solve", "--cert", "p"],
+        path: "p",
+    },
+    Named {
+        words: &["solve", "--cert=p"],
+        path: "p",
+    },
+    Named {
+        words: &["solve", "--cert=-p"],
+        path: "-p",
+    },
+    Named {
+        words: &["solve", "--cert=="],
+        path: "=",
+    },
+    Named {
+        words: &["solve", "--cert", "p=q"],
+        path: "p=q",
+    },
+    Named {
+        words: &["solve", "--cert=--cert"],
+        path: "--cert",
+    },
+    Named {
+        words: &["solve", "--cert", "solve"],
+        path: "solve",
+    },
+    Named {
+        words: &["solve", "--cert", " "],
+        path: " ",
+    },
+    Named {
+        words: &["bench", "--cert", "5", "7"],
+        path: "5",
+    },
+    Named {
+        words: &["bench", "7", "--cert", "5"],
+        path: "5",
+    },
+    Named {
+        words: &["bench", "--cert=5", "7"],
+        path: "5",
+    },
+    Named {
+        words: &["bench", "7", "--cert=5"],
+        path: "5",
+    },
+    Named {
+        words: &["bench", "4095", "--cert", "bench"],
+        path: "bench",
+    },
+    Named {
+        words: &["bench", "--cert", "a/b", "0"],
+        path: "a/b",
+    },
+];
+
 /// A list of words that asks for a bench, and what answers it.
 struct Bench {
     words: &'static [&'static str],
     answer: &'static [u8],
 }
 
-const BENCHES: [Bench; 2] = [
+const BENCHES: [Bench; 4] = [
     Bench {
         words: &["bench", "0"],
+        answer: b"bench 0\n1 milnor f\nmilnor 14\n2 highcorner j\ncorner z^6\n",
+    },
+    Bench {
+        words: &["bench", "--cert", "5", "0"],
+        answer: b"bench 0\n1 milnor f\nmilnor 14\n2 highcorner j\ncorner z^6\n",
+    },
+    Bench {
+        words: &["bench", "0", "--cert=p"],
         answer: b"bench 0\n1 milnor f\nmilnor 14\n2 highcorner j\ncorner z^6\n",
     },
     Bench {
@@ -123,5 +196,32 @@ fn words_that_ask_for_a_bench(rt: HostRuntime) -> Result<(), Fail> {
 fn greatest_bench(rt: HostRuntime) -> Result<(), Fail> {
     let answer = b"bench 4095\n1 milnor f\nmilnor 59\n2 highcorner j\ncorner z^21\n";
     assert!(rt; is_answered_unread(&rt, rt.alloc(), &["bench", "4095"], Status::Fits, answer)?);
+    Ok(())
+}
+
+/// Whether these words name this path.
+fn is_named(alloc: Global, words: &[&str], path: Option<&str>) -> Result<bool, Fail> {
+    let mut given = Vec::new(alloc);
+    for word in words {
+        given.push(String::from_str(alloc, *word)?)?;
+    }
+    Ok(cert_path(&given) == path)
+}
+
+#[test]
+fn words_that_name_a_path(rt: HostRuntime) -> Result<(), Fail> {
+    for named in &NAMED {
+        assert!(rt; is_named(rt.alloc(), named.words, Some(named.path))?);
+    }
+    Ok(())
+}
+
+#[test]
+fn words_that_name_no_path(rt: HostRuntime) -> Result<(), Fail> {
+    for words in NOTHING {
+        assert!(rt; is_named(rt.alloc(), words, None)?);
+    }
+    assert!(rt; is_named(rt.alloc(), &["solve"], None)?);
+    assert!(rt; is_named(rt.alloc(), &["bench", "0"], None)?);
     Ok(())
 }

@@ -1,4 +1,4 @@
-use Rattle.local_std.proofs.Requests.{one_request}
+use Rattle.local_std.proofs.Lines.{one_request}
 use Rattle.local_std.proofs.laws.one_request.Goals as goal
 
 pub returns : goal.returns

@@ -1,7 +1,7 @@
 use Rattle.std.proofs.Common.{◌≡◌, decimal, arith, sym, ap, ◌∙◌}
 use Rattle.std.proofs.lemmas.Fmt.{parse-decimal}
 use Rattle.std.proofs.lemmas.Slice.Eq.{bytes_eq-Decides}
-use Rattle.local_std.proofs.Requests.{no_both}
+use Rattle.local_std.proofs.Readings.{no_both}
 use Rattle.local_std.proofs.words.bench_number.Goals as goal
 
 pub returns-in-Err-clause-none : goal.returns-in-Err-clause-none

@@ -1,0 +1,106 @@
+-- A list of words has one reading. The first byte of a word tells an option from a numeral, and what stands behind the name of an
+-- option its form; so the first part is one, and the words behind it are those of the others.
+use Rattle.std.proofs.Common.{◌≡◌, ℕ, ◌+◌, ◌≤◌, zero, suc, List, [], ◌∷◌, ◌++◌, length, codes, decimal, All, refl, sym, ap, ap₂, ◌∙◌, arith, get_or, length-append, subst}
+use Rattle.std.proofs.lemmas.List.{append_cancel_left}
+use Rattle.std.proofs.lemmas.List.Elements.{All-head, All-tail}
+use Rattle.std.proofs.lemmas.Fmt.{first_decimal, decimal_digit, decimal_injective}
+use Rattle.local_std.specs.Bench.{max_bench}
+use Rattle.local_std.specs.View.{IsNumbered}
+use Rattle.local_std.specs.Words.{Form, joined, apart, Part, numeral, cert, option_words, words_of, IsPart, all_words, numerals, paths, Request, solve, bench, name_of, Takes, IsLine, Asks, HasPath}
+
+-- ---- one part
+-- a numeral begins with a digit
+numeral_first : (k : ℕ) → k ≤ max_bench → 48 ≤ get_or (decimal k) 0 0
+numeral_first zero low = let e : decimal 0 ≡ 48 ∷ [] = decimal_digit 0 (omega arith) in let f : get_or (decimal 0) 0 0 ≡ 48 = ap (λ l. get_or l 0 0) e in omega (arith, f)
+numeral_first (suc k) low = omega (arith, first_decimal (suc k) (omega arith) (omega (arith, low)))
+
+-- and is no option
+pub numeral_no_cert : (k : ℕ) (f : Form) (path : List ℕ) (r s : List (List ℕ)) → k ≤ max_bench → decimal k ∷ r ≡ option_words (codes "--cert") f path ++ s → ⊥
+numeral_no_cert k joined path r s low h =
+    let e : decimal k ≡ codes "--cert" ++ (codes "=" ++ path) = cc (h) in
+    let f : get_or (decimal k) 0 0 ≡ 45 = ap (λ l. get_or l 0 0) e in
+    omega (arith, f, numeral_first k low)
+numeral_no_cert k apart path r s low h =
+    let e : decimal k ≡ codes "--cert" = cc (h) in
+    let f : get_or (decimal k) 0 0 ≡ 45 = ap (λ l. get_or l 0 0) e in
+    omega (arith, f, numeral_first k low)
+
+-- what an option of some name is spelled by tells its form, its value and the words behind it
+pub option_same : (name : List ℕ) (f g : Form) (v w : List ℕ) (r s : List (List ℕ)) → option_words name f v ++ r ≡ option_words name g w ++ s → (f ≡ g) × (v ≡ w) × (r ≡ s)
+option_same name joined joined v w r s h =
+    let e : name ++ (codes "=" ++ v) ≡ name ++ (codes "=" ++ w) = cc (h) in
+    let t : codes "=" ++ v ≡ codes "=" ++ w = append_cancel_left name _ _ e in
+    (refl, cc (t), cc (h))
+option_same name joined apart v w r s h =
+    let e : name ++ (codes "=" ++ v) ≡ name = cc (h) in
+    let l : length (name ++ (codes "=" ++ v)) ≡ length name = ap length e in
+    let n : length (name ++ (codes "=" ++ v)) ≡ length name + suc (length v) = length-append name (codes "=" ++ v) in
+    absurd (omega (arith, l, n))
+option_same name apart joined v w r s h =
+    let e : name ++ (codes "=" ++ w) ≡ name = cc (h) in
+    let l : length (name ++ (codes "=" ++ w)) ≡ length name = ap length e in
+    let n : length (name ++ (codes "=" ++ w)) ≡ length name + suc (length w) = length-append name (codes "=" ++ w) in
+    absurd (omega (arith, l, n))
+option_same name apart apart v w r s h = (refl, cc (h), cc (h))
+
+-- what words begin with tells the part, and the words behind it
+pub part_same : (p q : Part) (r s : List (List ℕ)) → IsPart p → IsPart q → words_of p ++ r ≡ words_of q ++ s → (p ≡ q) × (r ≡ s)
+part_same (numeral k) (numeral j) r s a b h =
+    let e : decimal k ≡ decimal j = cc (h) in
+    (ap numeral (decimal_injective k j (omega (arith, a)) (omega (arith, b)) e), cc (h))
+part_same (numeral k) (cert f path) r s a b h = absurd (numeral_no_cert k f path r s a h)
+part_same (cert f path) (numeral k) r s a b h = absurd (numeral_no_cert k f path s r b (sym h))
+part_same (cert f path) (cert g other) r s a b h = let e = option_same (codes "--cert") f g path other r s h in (ap₂ cert e.0 e.1, e.2)
+
+-- a part has words
+pub part_some : (p : Part) (r : List (List ℕ)) → [] ≡ words_of p ++ r → ⊥
+part_some (numeral k) r h = cc (h)
+part_some (cert joined path) r h = cc (h)
+part_some (cert apart path) r h = cc (h)
+
+-- ---- several parts
+-- words that are spelled by parts are spelled by these alone
+pub parts_same : (ps qs : List Part) → All IsPart ps → All IsPart qs → all_words ps ≡ all_words qs → ps ≡ qs
+parts_same [] [] a b h = refl
+parts_same [] (q ∷ qs) a b h = absurd (part_some q (all_words qs) h)
+parts_same (p ∷ ps) [] a b h = absurd (part_some p (all_words ps) (sym h))
+parts_same (p ∷ ps) (q ∷ qs) a b h =
+    let e = part_same p q (all_words ps) (all_words qs) (All-head IsPart p ps a) (All-head IsPart q qs b) h in
+    ap₂ (λ x xs. x ∷ xs) e.0 (parts_same ps qs (All-tail IsPart p ps a) (All-tail IsPart q qs b) e.1)
+
+-- requests of one name that take the same parts are one
+request_same : (r q : Request) (ps : List Part) → name_of r ≡ name_of q → Takes r ps → Takes q ps → r ≡ q
+request_same solve solve ps n a b = refl
+request_same solve (bench k) ps n a b = absurd (cc (a, b))
+request_same (bench k) solve ps n a b = absurd (cc (a, b))
+request_same (bench k) (bench j) ps n a b = let e : k ∷ [] ≡ j ∷ [] = sym a ∙ b in ap bench (cc (e))
+
+-- a list of words is that of one request, with one list of parts
+pub one_line : (words : List (List ℕ)) (r q : Request) (ps qs : List Part) → IsLine words r ps → IsLine words q qs → (r ≡ q) × (ps ≡ qs)
+one_line words r q ps qs a b =
+    let e : name_of r ∷ all_words ps ≡ name_of q ∷ all_words qs = sym a.spelled ∙ b.spelled in
+    let n : name_of r ≡ name_of q = cc (e) in
+    let w : all_words ps ≡ all_words qs = cc (e) in
+    let same = parts_same ps qs a.values b.values w in
+    (request_same r q ps n a.takes (subst (Takes q) (sym same) b.takes), same)
+
+-- ---- the number of a bench
+-- numerals are numbers of the bench
+numeral_low : (ps : List Part) → All IsPart ps → (k : ℕ) → numerals ps ≡ k ∷ [] → k ≤ max_bench
+numeral_low [] a k e = absurd (cc (e))
+numeral_low (numeral j ∷ ps) a k e = let same : j ≡ k = cc (e) in let low : j ≤ max_bench = All-head IsPart (numeral j) ps a in subst (λ n. n ≤ max_bench) same low
+numeral_low (cert f path ∷ ps) a k e = numeral_low ps (All-tail IsPart (cert f path) ps a) k e
+
+-- so is that of a request that takes them
+pub numbered_by : (r : Request) (ps : List Part) → All IsPart ps → Takes r ps → IsNumbered r
+numbered_by solve ps a t = tt
+numbered_by (bench k) ps a t = numeral_low ps a k t
+
+pub one_request : (words : List (List ℕ)) (r q : Request) → Asks words r → Asks words q → r ≡ q
+one_request words r q (ps, a) (qs, b) = (one_line words r q ps qs a b).0
+
+pub one_path : (words : List (List ℕ)) (path other : List ℕ) → HasPath words path → HasPath words other → path ≡ other
+one_path words path other (r, ps, a, x) (q, qs, b, y) =
+    let same = (one_line words r q ps qs a b).1 in
+    let e : path ∷ [] ≡ other ∷ [] = sym x ∙ ap paths same ∙ y in
+    cc (e)
