@@ -1,11 +1,7 @@
 -- What is due after each part of the call. The reader's answer gives the tree or the first refusal, the blocks give the verdict
 -- and the text; a source that tells its bytes gave all of them, so a script within the limits is answered.
 use Rattle.std.proofs.Common.{◌≡◌, ◌⊎◌, inl, inr, ℕ, List, [], ◌++◌, ◌≤◌, ◌<◌, length, refl, Bool, true, false, if◌then◌else◌, Some, None, Result, Ok, Err, ap, sym, ◌∙◌, arith, length-append, IfSome, subst}
-use Rattle.std.proofs.KnownBytes.{Consumes-all}
 use Rattle.std.specs.Bool.{OnTrue, OnFalse}
-use Rattle.std.specs.declared.option.Option.{Option}
-use Rattle.std.specs.Io.KnownBytes.{Consumes}
-use Rattle.io_edge.specs.Reads.{Gave}
 use Rattle.script_grammar.specs.declared.refusal.Refusal.{Refusal}
 use Rattle.script_grammar.specs.declared.refusal.ReadKind.{ReadKind}
 use Rattle.script_grammar.specs.declared.script.Script.{Script}
@@ -20,13 +16,15 @@ use Rattle.ring_reader.specs.declared.error.ReadError.TheVariants as errors
 use Rattle.ring_reader.specs.Answers.{Refuses, asked_by}
 use Rattle.local_std.specs.declared.outcome.Status.{Status}
 use Rattle.local_std.specs.declared.outcome.Status.TheVariants.{Fits, Rejected, Input, TooSmall, Memory, ReadFault, WriteFault, Usage}
-use Rattle.local_std.specs.Words.{Request, solve, bench, Asks, InGrammar}
+use Rattle.local_std.specs.Words.{Request, solve, check, bench, Asks, InGrammar}
 use Rattle.local_std.specs.Endings.{HasText, IsAnswered}
 use Rattle.local_std.specs.Lent.{Lent, IsUntouched, HasFailed, HasGiven}
 use Rattle.local_std.specs.Answer.{IsAnswer, IsCertificate, AllFit, SomeIsSmall, IsVerdict, Solves}
 use Rattle.local_std.specs.Texts.{usage_line, too_long_line, refusal_line}
 use Rattle.local_std.specs.Scripts.{IsScriptOf, IsTooLong, IsRefused}
 use Rattle.local_std.specs.Due.{SolvesBehind, limit_of, RequestDue, FailsToRead, Offers, Admits, Served, Due, IsUncertified, IsCut, Ends}
+use Rattle.local_std.proofs.Inputs.{read_is, given_le}
+use Rattle.local_std.proofs.Checks.{answers_check}
 
 -- the greatest number of bytes of a script that is to be solved
 abbrev script_limit : ℕ
@@ -123,17 +121,6 @@ pub asked : {S : Type 0} (words : List (List ℕ)) (source : Lent S) (request : 
     (status : Status) (text proof : List ℕ) → Served request source status text proof → Due words source status text proof
 asked words source request asks status text proof served = inr (request, asks, served)
 
--- what was left is what was read to the end
-pub read_is : (before now : Option (List ℕ)) (bytes input : List ℕ) → before ≡ Some input → Gave before now script_limit bytes → length bytes ≤ script_limit → bytes ≡ input
-read_is before now bytes input is gave few =
-    subst (λ o. IfSome o (λ xs. bytes ≡ xs)) is (Consumes-all before now bytes [] bytes gave.given (gave.whole few) refl)
-
--- what a source gave is no more than what it had
-given_le : (before now : Option (List ℕ)) (bytes input : List ℕ) → before ≡ Some input → Consumes before now bytes → length bytes ≤ length input
-given_le None now bytes input is c = absurd (cc (is))
-given_le (Some xs) None bytes input is c = absurd c
-given_le (Some xs) (Some ys) bytes input is c = let e : xs ≡ input = cc (is) in omega (arith, ap length c, length-append bytes ys, ap length e)
-
 -- for a script within the limits no line about the input is due
 admitted : (input text : List ℕ) → Admits solve input → IsTooLong script_limit input text ⊎ IsRefused script_limit input text → ⊥
 admitted input text (few, tree, is) (inl long) = omega (arith, few, long.many)
@@ -157,7 +144,7 @@ answers_solve source input offers admits status text proof s = go s.is_due
     same : s.input ≡ input
     same =
         let no_more = given_le (source.bytes source.before) (source.bytes source.now) s.input input offers s.reads.given in
-        read_is (source.bytes source.before) (source.bytes source.now) s.input input offers s.reads (omega (arith, no_more, admits.0))
+        read_is script_limit (source.bytes source.before) (source.bytes source.now) s.input input offers s.reads (omega (arith, no_more, admits.0))
 
     go : RequestDue solve s.input status text proof → IsAnswered status
     go (inl unread) = absurd (admitted s.input text (subst (Admits solve) (sym same) admits) unread.why)
@@ -166,11 +153,13 @@ answers_solve source input offers admits status text proof s = go s.is_due
 -- what is due for what a request admits is its answer
 answers : {S : Type 0} (request : Request) (source : Lent S) (input : List ℕ) → Offers request source input → Admits request input → (status : Status) (text proof : List ℕ) → Served request source status text proof → IsAnswered status
 answers solve source input offers admits status text proof s = answers_solve source input offers admits status text proof s
+answers check source input offers admits status text proof s = answers_check source input offers admits status text proof s
 answers (bench k) source input offers admits status text proof s = let read = s.is_due.1 in verdict_answers (meaning read.tree) status read.answer.verdict
 
 -- a source that failed counted it
 failed_of : {S : Type 0} (request : Request) (source : Lent S) → FailsToRead request source → HasFailed source
 failed_of solve source fails = fails.0
+failed_of check source fails = fails.0
 failed_of (bench k) source fails = absurd fails
 
 module _ {S K C : Type 0} (request : Request) (source : Lent S) (out : Lent K) (cert : Lent C) (input : List ℕ) (offers : Offers request source input) (admits : Admits request input) where

@@ -3,6 +3,8 @@ mod Settled
 pub mod Prefixes
 pub mod Blocks
 pub mod Ends
+pub mod Inputs
+pub mod Checks
 pub mod Dues
 pub mod OneText
 mod Lines

@@ -6,7 +6,7 @@ use Rattle.std.proofs.lemmas.List.Elements.{All-head, All-tail}
 use Rattle.std.proofs.lemmas.Fmt.{first_decimal, decimal_digit, decimal_injective}
 use Rattle.local_std.specs.Bench.{max_bench}
 use Rattle.local_std.specs.View.{IsNumbered}
-use Rattle.local_std.specs.Words.{Form, joined, apart, Part, numeral, cert, option_words, words_of, IsPart, all_words, numerals, paths, Request, solve, bench, name_of, Takes, IsLine, Asks, HasPath}
+use Rattle.local_std.specs.Words.{Form, joined, apart, Part, numeral, cert, option_words, words_of, IsPart, all_words, numerals, paths, Request, solve, check, bench, name_of, Takes, IsLine, Asks, HasPath}
 
 -- ---- one part
 -- a numeral begins with a digit
@@ -71,8 +71,13 @@ parts_same (p ∷ ps) (q ∷ qs) a b h =
 -- requests of one name that take the same parts are one
 request_same : (r q : Request) (ps : List Part) → name_of r ≡ name_of q → Takes r ps → Takes q ps → r ≡ q
 request_same solve solve ps n a b = refl
-request_same solve (bench k) ps n a b = absurd (cc (a, b))
-request_same (bench k) solve ps n a b = absurd (cc (a, b))
+request_same solve check ps n a b = let first : 115 ≡ 99 = ap (λ l. get_or l 0 0) n in absurd (omega (arith, first))
+request_same solve (bench k) ps n a b = let first : 115 ≡ 98 = ap (λ l. get_or l 0 0) n in absurd (omega (arith, first))
+request_same check solve ps n a b = let first : 99 ≡ 115 = ap (λ l. get_or l 0 0) n in absurd (omega (arith, first))
+request_same check check ps n a b = refl
+request_same check (bench k) ps n a b = let first : 99 ≡ 98 = ap (λ l. get_or l 0 0) n in absurd (omega (arith, first))
+request_same (bench k) solve ps n a b = let first : 98 ≡ 115 = ap (λ l. get_or l 0 0) n in absurd (omega (arith, first))
+request_same (bench k) check ps n a b = let first : 98 ≡ 99 = ap (λ l. get_or l 0 0) n in absurd (omega (arith, first))
 request_same (bench k) (bench j) ps n a b = let e : k ∷ [] ≡ j ∷ [] = sym a ∙ b in ap bench (cc (e))
 
 -- a list of words is that of one request, with one list of parts
@@ -94,6 +99,7 @@ numeral_low (cert f path ∷ ps) a k e = numeral_low ps (All-tail IsPart (cert f
 -- so is that of a request that takes them
 pub numbered_by : (r : Request) (ps : List Part) → All IsPart ps → Takes r ps → IsNumbered r
 numbered_by solve ps a t = tt
+numbered_by check ps a t = tt
 numbered_by (bench k) ps a t = numeral_low ps a k t
 
 pub one_request : (words : List (List ℕ)) (r q : Request) → Asks words r → Asks words q → r ≡ q

@@ -179,3 +179,12 @@ pub no_cert : (words : List (List ℕ)) (r : Request) (parts : List Part) → Is
     IfNone path ((other : List ℕ) → HasPath words other → ⊥)
 no_cert words r parts line None is = λ other (q, others, has, one). let same = (one_line words r q parts others line has).1 in let e : [] ≡ other ∷ [] = is ∙ ap paths same ∙ one in cc (e)
 no_cert words r parts line (Some p) is = tt
+
+-- where no number and no path are given there are no parts
+pub nothing_given : (parts : List Part) (given : Given) → Gives parts given → given.number ≡ None → given.cert ≡ None → parts ≡ []
+nothing_given parts given gives number path = none parts (sym gives.numbers ∙ ap option_to_list number) (sym gives.paths ∙ ap (λ o. map (λ p. p.now) (option_to_list o)) path)
+  where
+    none : (ps : List Part) → numerals ps ≡ [] → paths ps ≡ [] → ps ≡ []
+    none [] n p = refl
+    none (numeral k ∷ ps) n p = absurd (cc (n))
+    none (cert form path ∷ ps) n p = absurd (cc (p))

@@ -7,9 +7,10 @@ use Rattle.script_grammar.specs.Valid.{IsScript}
 use Rattle.local_std.specs.declared.outcome.Status.{Status}
 use Rattle.local_std.specs.declared.outcome.Status.TheVariants.{Memory, ReadFault, WriteFault, Usage}
 use Rattle.local_std.specs.Bench.{bench_script, bench_line}
-use Rattle.local_std.specs.Words.{Request, solve, bench, Asks, InGrammar}
+use Rattle.local_std.specs.Words.{Request, solve, check, bench, Asks, InGrammar}
 use Rattle.local_std.specs.Answer.{Solves}
 use Rattle.local_std.specs.Scripts.{IsRead, ScriptDue}
+use Rattle.local_std.specs.Checked.{max_certificate, CheckDue}
 use Rattle.local_std.specs.Texts.{usage_line}
 use Rattle.local_std.specs.Endings.{HasText}
 use Rattle.local_std.specs.Lent.{Lent, IsUntouched, HasFailed, HasNoFault, HasGiven, HasGivenSome, HasGained, HasGainedPart}
@@ -18,36 +19,43 @@ use Rattle.local_std.specs.Lent.{Lent, IsUntouched, HasFailed, HasNoFault, HasGi
 -- the greatest number of bytes that it takes of the source
 abbrev pub limit_of : Request → ℕ
 limit_of solve = max_script
+limit_of check = max_certificate
 limit_of (bench k) = 0
 
 -- for this input, this status, this text for `out` and this text for `cert` are due
 abbrev pub RequestDue : Request → List ℕ → Status → List ℕ → List ℕ → Type 0
 RequestDue solve input status text proof = ScriptDue Solves (limit_of solve) input status text proof
+RequestDue check input status text proof = CheckDue input status text proof
 RequestDue (bench k) input status text proof = (blocks : List ℕ) × IsRead Solves max_script input status blocks proof × (text ≡ bench_line k ++ blocks)
 
 -- it has read this input; the bench makes its own, and leaves the source as it is
 abbrev pub HasRead : {S : Type 0} → Request → Lent S → List ℕ → Type 0
 HasRead solve source input = HasGiven source (limit_of solve) input
+HasRead check source input = HasGiven source (limit_of check) input
 HasRead (bench k) source input = IsUntouched source × (input ≡ bench_script k)
 
 -- the source failed while it read
 abbrev pub FailsToRead : {S : Type 0} → Request → Lent S → Type 0
 FailsToRead solve source = HasFailed source × HasGivenSome source (limit_of solve)
+FailsToRead check source = HasFailed source × HasGivenSome source (limit_of check)
 FailsToRead (bench k) source = ⊥
 
 -- it was broken off, and no fault of the source was counted
 abbrev pub HasReadSome : {S : Type 0} → Request → Lent S → Type 0
 HasReadSome solve source = HasNoFault source × HasGivenSome source (limit_of solve)
+HasReadSome check source = HasNoFault source × HasGivenSome source (limit_of check)
 HasReadSome (bench k) source = IsUntouched source
 
--- it has this input, and that of solve is the source's
+-- it has this input, and but for the bench that is the source's
 abbrev pub Offers : {S : Type 0} → Request → Lent S → List ℕ → Type 0
 Offers solve source input = source.bytes source.before ≡ Some input
+Offers check source input = source.bytes source.before ≡ Some input
 Offers (bench k) source input = input ≡ bench_script k
 
--- it answers this input: solve each script within the limits, and the bench its own whatever its number
+-- it answers this input: solve each script within the limits, check all bytes that aren't too many, and the bench its own script
 abbrev pub Admits : Request → List ℕ → Type 0
 Admits solve input = (length input ≤ limit_of solve) × (tree : Tree) × IsScript input tree
+Admits check input = length input ≤ limit_of check
 Admits (bench k) input = Unit {0}
 
 -- ---- what is due

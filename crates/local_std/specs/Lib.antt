@@ -5,6 +5,7 @@ pub mod Lent
 pub mod Answer
 pub mod Texts
 pub mod Scripts
+pub mod Checked
 pub mod Due
 pub mod View
 pub mod Solved

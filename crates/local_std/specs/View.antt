@@ -4,10 +4,10 @@ use Rattle.std.specs.Option.{option_to_list}
 use Rattle.local_std.specs.declared.outcome.Status.{Status}
 use Rattle.local_std.specs.declared.outcome.Status.TheVariants.{WriteFault}
 use Rattle.local_std.specs.declared.words.Request.{Request as Asked}
-use Rattle.local_std.specs.declared.words.Request.TheVariants.{Solve, Bench}
+use Rattle.local_std.specs.declared.words.Request.TheVariants.{Solve, Check, Bench}
 use Rattle.local_std.specs.Bench.{max_bench}
 use Rattle.local_std.specs.declared.words.Given.{Given}
-use Rattle.local_std.specs.Words.{Request, solve, bench, Part, IsPart, all_words, numerals, paths}
+use Rattle.local_std.specs.Words.{Request, solve, check, bench, Part, IsPart, all_words, numerals, paths}
 use Rattle.local_std.specs.Lent.{Lent, HasFailed, HasGained}
 
 -- the text was written, or the sink failed in it
@@ -18,11 +18,13 @@ Wrote status text sink result =
 
 abbrev pub request_in : Asked → Request
 request_in Solve = solve
+request_in Check = check
 request_in (Bench k) = bench k
 
 -- the number of a bench is one of the bench
 abbrev pub IsNumbered : Request → Type 0
 IsNumbered solve = Unit {0}
+IsNumbered check = Unit {0}
 IsNumbered (bench k) = k ≤ max_bench
 
 -- the number that is given, if there is one, and the path

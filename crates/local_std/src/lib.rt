@@ -17,6 +17,7 @@ mod refusal;
 mod same;
 mod solved;
 mod top;
+mod verdict;
 mod words;
 
 pub use cert_sink::CertSink;

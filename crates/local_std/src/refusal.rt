@@ -34,7 +34,7 @@ fn position_text(line: u32, column: u32) -> Line
 }
 
 /// Adds a number in decimal.
-fn push_number(text: &mut Line, n: u64)
+pub(crate) fn push_number(text: &mut Line, n: u64)
     requires { length text.old.bytes + 20 ≤ 100 }
     ensures bytes { text.new.bytes ≡ text.old.bytes ++ decimal n }
     ensures few { length text.new.bytes ≤ length text.old.bytes + 20 }

@@ -1,6 +1,6 @@
 // The top call.
 ghost use Rattle.std.specs.Prelude.{◌≡◌, ℕ, ◌≤◌, ◌⊎◌, ◌++◌, List, map, string_bytes, IfOk};
-ghost use Rattle.local_std.specs.Words.{Request as Requested, Asks, solve, bench as bench_of};
+ghost use Rattle.local_std.specs.Words.{Request as Requested, Asks, solve, check as check_of, bench as bench_of};
 ghost use Rattle.local_std.specs.Bench.{max_bench};
 ghost use Rattle.local_std.specs.Endings.{HasText, IsAnswered};
 ghost use Rattle.local_std.specs.Lent.{lent, IsUntouched, HasFailed};
@@ -16,7 +16,9 @@ use crate::certificate::write_certificate;
 use crate::gate::Gate;
 use crate::outcome::Status;
 use crate::refusal::refusal_line;
+use crate::verdict::{verdict_line, verdict_status};
 use crate::words::{Request, request_of};
+use cert_check::check as checked;
 use cert_write::CertWriteError;
 use io_edge::{ReadAllError, Sink, Source, read_all, write_all_counted};
 use ring_reader::{ReadError, Script, read_script};
@@ -93,6 +95,7 @@ fn serve<S: Source, K: Sink, C: Sink>(
 {
     match request {
         Request::Solve => solve(alloc, source, out, cert),
+        Request::Check => check(alloc, source, out, cert),
         Request::Bench(number) => bench(alloc, number, source, out, cert),
     }
 }
@@ -184,6 +187,34 @@ fn joined(front: String, text: &String) -> Result<String, AllocError>
     let mut whole = front;
     whole.push_str(text)?;
     Ok(whole)
+}
+
+/// Checks a certificate.
+fn check<S: Source, K: Sink, C: Sink>(
+    alloc: Global,
+    source: &mut S,
+    out: &mut K,
+    cert: &C,
+) -> Status
+    ensures { Ends check_of (lent S.left S.faults source.old source.new)
+        (lent K.written K.faults out.old out.new) (lent C.written C.faults cert.now cert.now) result }
+{
+    let _cert = cert;
+    let certificate = match read_all(alloc, source, Request::Check.limit()) {
+        Ok(certificate) => certificate,
+        Err(error) => match error {
+            ReadAllError::Failed => return Status::ReadFault,
+            ReadAllError::Memory => return Status::Memory,
+            ReadAllError::TooLong => return written(out, b"input too long\n", Status::Input),
+        },
+    };
+    match checked(alloc, &certificate) {
+        Err(_) => Status::Memory,
+        Ok(verdict) => {
+            let line = verdict_line(verdict);
+            written(out, line.as_str().as_bytes(), verdict_status(verdict))
+        }
+    }
 }
 
 const USAGE: &[u8] =
