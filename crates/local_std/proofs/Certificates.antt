@@ -1,7 +1,7 @@
 -- The certificate of a script: what is certified of each command's problem, which was solved, stands at the command's place.
 -- The lines of blocks one after another, with the last line, are those of the certificate.
 use Rattle.std.proofs.Common.{◌≡◌, ℕ, zero, suc, ◌+◌, ◌<◌, ◌≤◌, List, [], ◌∷◌, ◌++◌, length, map, get_or, Option, Some, codes, refl, sym, ◌∙◌, ap, subst, arith, append_assoc}
-use Rattle.std.specs.Prelude.{All, slice_get, filter_map, option_map}
+use Rattle.std.specs.Prelude.{All, slice_get, option_map}
 use Rattle.std.specs.List.{AllByRecursion, AllZip, cons_option}
 use Rattle.std.proofs.lemmas.Option.{slice_get_within, get_or_from_slice_get}
 use Rattle.std.proofs.lemmas.List.{append-nil, length-map}
@@ -15,17 +15,17 @@ use Rattle.script_grammar.specs.Statements.{is_on_poly}
 use Rattle.script_grammar.specs.Limits.{max_commands}
 use Rattle.ring_reader.specs.Coherent.{IsSubject, IsCoherent, BelongsTo}
 use Rattle.sparse_poly.specs.Ideal.{Problem}
-use Rattle.cert_grammar.specs.Lines.{Line, line_text, text}
+use Rattle.cert_grammar.specs.Lines.{line_text, text}
 use Rattle.cert_grammar.specs.Blocks.{Block}
 use Rattle.cert_grammar.specs.Cert.{head_line, numbered, in_turn, block_lines, blocks_lines}
-use Rattle.cert_grammar.specs.declared.certified.Certified.{Certified}
-use Rattle.cert_grammar.specs.Certified.{IsCertified, IsCertificate as IsCertificateOf, block_of, certificate_text}
+use Rattle.cert_grammar.specs.Certified.{IsCertified, block_of, certificate_text}
 use Rattle.cert_grammar.proofs.Refusals.{text-append}
 use Rattle.local_std.specs.Answer.{problem_in, problem_of, Certifies, IsCertificate}
 use Rattle.local_std.specs.declared.solved.Solved.{Solved}
 use Rattle.local_std.specs.Solved.{problem_asked, IsSolved, IsPlaceOf, claim_of, claims_at}
 use Rattle.local_std.specs.Claims.{IsClaimable, numbered_block}
 use Rattle.local_std.proofs.Certified.{certified, ring_variables}
+use Rattle.local_std.proofs.Accepted.{accepted}
 
 -- ---- places
 -- What stands at a place stands there where more was put behind.
@@ -94,7 +94,7 @@ module _ (s : Script) (coherent : IsCoherent s) where
         let own = at_place place one at in
         let rest = claims_are cs places (λ k z l. belong (suc k) z (omega (arith, l))) h.1 in
         let x = claim_of s.names one in
-        let here : Certifies s c x = record { letters = refl; problem = is; legal = own.legal; settled = own.settled; answer = own.value; corner = refl } in
+        let here : Certifies s c x = record { letters = refl; problem = is; answer = own.value; accepted = accepted x own.problem own.legal own.settled own.value refl } in
         subst (λ (o : Option Solved). AllByRecursion IsCertified (cons_option (option_map (claim_of s.names) o) (claims_at s.names solved places))
         × AllZip (Certifies s) (c ∷ cs) (cons_option (option_map (claim_of s.names) o) (claims_at s.names solved places))
         × (length (cons_option (option_map (claim_of s.names) o) (claims_at s.names solved places)) ≡ length (c ∷ cs)) × (length (place ∷ places) ≡ length (c ∷ cs))) (sym at)

@@ -1,37 +1,35 @@
 -- What answers a problem can be certified: its entries are numbers of a certificate with terms by rank, since they are legal,
 -- and its answer is in the ring, since it has the monomials and members that the ideal determines, each once.
-use Rattle.std.proofs.Common.{◌≡◌, ◌≢◌, ℕ, zero, suc, ◌+◌, ◌%◌, ◌<◌, ◌≤◌, List, [], ◌∷◌, length, map, get_or, Bool, true, false, Some, None, refl, sym, ◌∙◌, ap, subst, arith}
-use Rattle.std.specs.Prelude.{All, Contains, nat_le, eqb, if◌then◌else◌}
+use Rattle.std.proofs.Common.{◌≡◌, ◌≢◌, ℕ, zero, suc, ◌+◌, ◌%◌, ◌<◌, ◌≤◌, List, [], ◌∷◌, length, map, get_or, Bool, true, false, refl, sym, ◌∙◌, ap, subst, arith}
+use Rattle.std.specs.Prelude.{All, Contains, eqb, if◌then◌else◌}
 use Rattle.std.proofs.Math.Nat.{mod-lt, mod-eq_of_lt, zero-mod}
 use Rattle.std.specs.List.{AllByRecursion, AllZip}
 use Rattle.std.proofs.lemmas.Bool.{le-leb}
-use Rattle.std.proofs.lemmas.List.{length-map}
-use Rattle.prime_field.specs.Prime.{InTable}
-use Rattle.local_order.specs.Limits.{max_degree, max_generators, max_monomials, max_variables}
+use Rattle.local_order.specs.Limits.{max_generators, max_monomials}
 use Rattle.local_order.specs.Mono.{degree, same}
-use Rattle.local_order.specs.Shape.{Shape, count}
+use Rattle.local_order.specs.Shape.{count}
 use Rattle.local_order.proofs.Order.{above_irrefl, same-false}
 use Rattle.mono_rank.specs.Rank.{rank_of}
 use Rattle.mono_rank.proofs.Ranks.{rank_above, rank_low}
-use Rattle.rank_algebra.specs.Ranks.{Ranks, IsRanks}
+use Rattle.rank_algebra.specs.Ranks.{Ranks}
 use Rattle.rank_algebra.specs.Vector.{Same, Vector}
-use Rattle.sparse_poly.specs.Poly.{Term as PolyTerm, Poly, Polynomial, coef, total, in_variables, IsCanonical, IsAboveFirst, HasDegreeAtMost}
-use Rattle.sparse_poly.specs.Ideal.{Problem, IsProblem, IsFalling, IsStaircase, IsReducedMember, IsReducedBasis, IsFirstMissing}
+use Rattle.sparse_poly.specs.Poly.{Term as PolyTerm, Poly, Polynomial, coef, total, IsCanonical, IsAboveFirst}
+use Rattle.sparse_poly.specs.Ideal.{Problem, IsProblem, IsFalling, IsReducedMember}
 use Rattle.sparse_poly.specs.Shape.{shape_of}
 use Rattle.sparse_poly.specs.Letters.{AreLetters}
-use Rattle.sparse_poly.proofs.Unique.{coef-first, below-down, total-above}
+use Rattle.sparse_poly.proofs.Unique.{coef-first, below-down}
 use Rattle.entry_code.specs.declared.item.Item.{Item}
 use Rattle.entry_code.specs.declared.item.Item.TheVariants.{Generator, Pair}
 use Rattle.entry_code.specs.declared.reading.Reading.{Reading}
 use Rattle.entry_code.specs.declared.term.Term.{Term}
-use Rattle.entry_code.specs.Entry.{Entry, entry_at, no_entry}
+use Rattle.entry_code.specs.Entry.{Entry, entry_at}
 use Rattle.mora_law.specs.Ring.{numbering_of, ranks_of_problem, generators_of}
 use Rattle.entry_code.specs.Terms.{vector_of_terms}
 use Rattle.mora_law.specs.Lead.{is_none_at}
 use Rattle.mora_law.specs.Run.{AreOrderly}
 use Rattle.mora_law.specs.Entries.{basis_of, monic as monic_of}
 use Rattle.mora_law.specs.Start.{run_of}
-use Rattle.mora_law.specs.Legal.{IsItemOf, IsLegalEntry, Legal}
+use Rattle.mora_law.specs.Legal.{IsItemOf, Legal}
 use Rattle.mora_law.proofs.Terms.{term_by, terms_from, terms_walk}
 use Rattle.mora_law.proofs.Ring.{ranks_are, ranks_p, problem_is_admissible}
 use Rattle.mora_law.proofs.Orderly.{known_le}
@@ -40,10 +38,9 @@ use Rattle.mora_law.proofs.Problems.{monic}
 use Rattle.text_out.specs.Answers.{IsInRing}
 use Rattle.text_out.specs.declared.answer.Answer.{Answer}
 use Rattle.text_out.specs.declared.answer.Answer.TheVariants as answers
-use Rattle.cert_grammar.specs.Words.{Ring, IsPolyOf, IsNonzeroOf, IsMonoOf, IsTopOf}
+use Rattle.cert_grammar.specs.Words.{Ring, IsNonzeroOf, IsMonoOf}
 use Rattle.cert_grammar.specs.Cert.{IsNumber, IsItem, IsReading, IsCorner, IsVerdict}
-use Rattle.cert_grammar.specs.declared.certified.Certified.{Certified}
-use Rattle.cert_grammar.specs.Certified.{IsBefore, AreTerms, IsRunEntry, HasCorner, IsCertified, ring_of, verdict_of}
+use Rattle.cert_grammar.specs.Certified.{IsBefore, AreTerms, IsRunEntry, HasCorner, IsCertified, verdict_of}
 use Rattle.cert_write.specs.Claim.{last_of, corner_of, claim}
 use Rattle.local_std.specs.Answer.{IsAnswerOf}
 

@@ -1,5 +1,5 @@
 -- What is due for a certificate that is to be checked. It comes with a text, and bytes that aren't too many get a verdict.
-use Rattle.std.proofs.Common.{◌≡◌, ◌⊎◌, inl, inr, ℕ, List, [], ◌≤◌, ◌<◌, length, refl, sym, ◌∙◌, subst, arith}
+use Rattle.std.proofs.Common.{◌≡◌, ◌⊎◌, inl, inr, ℕ, List, [], ◌≤◌, ◌<◌, length, refl, sym, subst, arith}
 use Rattle.cert_check.specs.declared.certificate.Verdict.{Verdict}
 use Rattle.cert_check.specs.declared.certificate.Verdict.TheVariants.{Accepted, Rejected as RejectedAt}
 use Rattle.cert_check.specs.Certificate.{IsVerdictOf}
@@ -9,7 +9,7 @@ use Rattle.local_std.specs.Endings.{HasText, IsAnswered}
 use Rattle.local_std.specs.Lent.{Lent, HasGiven}
 use Rattle.local_std.specs.Words.{check}
 use Rattle.local_std.specs.Texts.{too_long_line}
-use Rattle.local_std.specs.Checked.{max_certificate, verdict_line, verdict_status, IsUnchecked, IsChecked, CheckDue}
+use Rattle.local_std.specs.Checked.{max_certificate, verdict_line, verdict_status, IsUnchecked, IsChecked}
 use Rattle.local_std.specs.Due.{Offers, Admits, Served}
 use Rattle.local_std.proofs.Inputs.{read_is, given_le}
 

@@ -1,6 +1,6 @@
 -- What is due after each part of the call. The reader's answer gives the tree or the first refusal, the blocks give the verdict
 -- and the text; a source that tells its bytes gave all of them, so a script within the limits is answered.
-use Rattle.std.proofs.Common.{◌≡◌, ◌⊎◌, inl, inr, ℕ, List, [], ◌++◌, ◌≤◌, ◌<◌, length, refl, Bool, true, false, if◌then◌else◌, Some, None, Result, Ok, Err, ap, sym, ◌∙◌, arith, length-append, IfSome, subst}
+use Rattle.std.proofs.Common.{◌≡◌, ◌⊎◌, inl, inr, ℕ, List, [], ◌++◌, ◌≤◌, ◌<◌, length, refl, Bool, true, false, if◌then◌else◌, Result, Ok, Err, ap, sym, ◌∙◌, arith, subst}
 use Rattle.std.specs.Bool.{OnTrue, OnFalse}
 use Rattle.script_grammar.specs.declared.refusal.Refusal.{Refusal}
 use Rattle.script_grammar.specs.declared.refusal.ReadKind.{ReadKind}

@@ -13,4 +13,5 @@ mod Pieces
 mod BenchScripts
 mod Benches
 mod Certified
+pub mod Accepted
 pub mod Certificates

@@ -15,11 +15,9 @@ use Rattle.local_std.specs.declared.outcome.Status.TheVariants as statuses
 use Rattle.text_out.specs.declared.answer.Answer.{Answer}
 use Rattle.text_out.specs.declared.answer.Answer.TheVariants as answers
 use Rattle.text_out.specs.Block.{block}
-use Rattle.mora_law.specs.Legal.{Legal}
-use Rattle.mora_law.specs.Settled.{AllSettled}
 use Rattle.cert_grammar.specs.declared.certified.Certified.{Certified}
 use Rattle.cert_grammar.specs.Certified.{IsCertificate as IsCertificateOf, certificate_text}
-use Rattle.cert_write.specs.Claim.{corner_of}
+use Rattle.cert_check.specs.Accepted.{IsAcceptedBlock}
 
 -- The problem of a word that is asked of a function: that of its Milnor number or of its Tjurina number. The other words are asked of
 -- none, and have a problem without generators.
@@ -59,15 +57,12 @@ abbrev pub IsAnswer : Script → List ℕ → Type 0
 IsAnswer s text = AreBlocks s 1 s.commands text
 
 -- ---- the certificate
--- What is certified of a command: the problem, in the script's letters, entries that are legal for it and settle every ticket, the
--- answer, and its highest corner.
+-- What is certified of a command: its problem, in the script's letters, and the problem's answer, in a block that the checker accepts.
 pub record Certifies (s : Script) (c : Command) (x : Certified) : Type 0 where
   pub letters : x.letters ≡ s.names
   pub problem : x.problem ≡ problem_of s c
-  pub legal : Legal x.problem x.entries
-  pub settled : AllSettled x.problem x.entries
   pub answer : IsAnswerOf x.problem x.answer
-  pub corner : x.corner ≡ corner_of x.answer
+  pub accepted : IsAcceptedBlock x
 
 -- the text for `cert`: a certificate with a block for each command, in order
 pub record IsCertificate (s : Script) (proof : List ℕ) : Type 0 where

@@ -1,10 +1,11 @@
 //! What the definitions of answers say of each other, without any code.
 
-ghost use Rattle.std.specs.Prelude.{◌≡◌, ◌≤◌, ℕ, List};
+ghost use Rattle.std.specs.Prelude.{◌≡◌, ◌≤◌, ℕ, List, length};
 ghost use Rattle.script_grammar.specs.declared.script.Script.{Script};
 ghost use Rattle.script_grammar.specs.Trees.{Tree};
 ghost use Rattle.script_grammar.specs.Valid.{IsScript};
-ghost use Rattle.local_std.specs.Answer.{IsAnswer};
+ghost use Rattle.cert_check.specs.Certificate.{Accepts};
+ghost use Rattle.local_std.specs.Answer.{IsAnswer, IsCertificate};
 ghost use Rattle.local_std.specs.Bench.{max_bench, bench_script};
 ghost use Rattle.local_std.specs.Words.{Request, Asks, HasPath};
 
@@ -16,6 +17,11 @@ pub fn one_text()
 /// Each script of the bench is in the grammar.
 pub fn bench_scripts()
     ensures { (k : ℕ) → k ≤ max_bench → (tree : Tree) × IsScript (bench_script k) tree }
+{}
+
+/// The certificate that is due for a script is accepted by the checker, with a block for each command.
+pub fn certificates_are_accepted()
+    ensures { (s : Script) (proof : List ℕ) → IsCertificate s proof → Accepts proof (length s.commands) }
 {}
 
 /// A list of words asks for one request at most.

@@ -1,4 +1,4 @@
-use Rattle.std.proofs.Common.{refl, []}
+use Rattle.std.proofs.Common.{refl}
 use Rattle.local_std.specs.declared.outcome.Status.TheVariants.{Input}
 use Rattle.local_std.specs.Words.{check}
 use Rattle.local_std.specs.Lent.{lent}
