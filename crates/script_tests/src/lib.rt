@@ -8,6 +8,8 @@ mod answers;
 #[cfg(test)]
 mod certificates;
 #[cfg(test)]
+mod checks;
+#[cfg(test)]
 mod reading;
 #[cfg(test)]
 mod run;
