@@ -28,9 +28,11 @@ use Rattle.local_std.proofs.Pieces.{Piece, bytes_of, tokens_of, are_pieces, piec
 abbrev name : List ℕ → Piece
 name w = record { blanks = []; token = word w }
 
+-- a word behind a blank or the end of a line
 abbrev behind : ℕ → List ℕ → Piece
 behind b w = record { blanks = b ∷ []; token = word w }
 
+-- a mark with nothing in front
 abbrev sign : ℕ → Piece
 sign m = record { blanks = []; token = mark m }
 
@@ -90,11 +92,13 @@ digits_all (b ∷ w) h = let p = and_parts (is_digit b) (is_numeral w) h in and_
 numerals : IsNumeralModel (λ ds. is_numeral ds ≡ true) value_of
 numerals = numerals_by_fold _ (search rules) value_from (search rules)
 
+-- a number below 2^64 is spelled by a numeral
 number_is : (n : ℕ) → n < 2 ^ 64 → IsNumber (decimal n)
 number_is n small =
     let numeral = digits_decimal numerals n small in
     record { numeral = numeral; some = decimal_nonempty n small; all = digits_all (decimal n) numeral }
 
+-- and the numeral has its value
 value_is : (n : ℕ) → n < 2 ^ 64 → value_of (decimal n) ≡ n
 value_is n small = digits_value-decimal numerals n small
 
@@ -137,6 +141,7 @@ unfolding takes_exponent
 power_valid l digits known numeral low = (known, refl, numeral, low)
 
 module _ (degree a b c : List ℕ) (hd : IsNumber degree) (ha : IsNumber a) (hb : IsNumber b) (hc : IsNumber c) (some : 1 ≤ value_of degree) (few : value_of degree ≤ 22) (low_a : value_of a ≤ 22) (low_b : value_of b ≤ 22) (low_c : value_of c ≤ 22) where
+  -- the ring is valid
   ring_valid : ValidRing (bench_tree degree a b c).ring
   ring_valid = record {
     name = (refl, refl);
@@ -148,6 +153,7 @@ module _ (degree a b c : List ℕ) (hd : IsNumber degree) (ha : IsNumber a) (hb 
       in_table : InTable 32003
       in_table = (7, omega arith, refl)
 
+  -- so is the noether monomial, as its degree is small
   noether_valid : ValidNoether (120 ∷ 121 ∷ 122 ∷ []) (factor (raised_letter (codes "z") degree))
   noether_valid = record {
     factors = (refl, refl, refl, hd.numeral, omega (arith, few));
@@ -158,6 +164,7 @@ module _ (degree a b c : List ℕ) (hd : IsNumber degree) (ha : IsNumber a) (hb 
       most : monomial_count 3 22 ≡ 2300
       most = refl
 
+  -- so is the function, as its exponents are small
   sum_valid : ValidSum ring_known max_depth (plus (plus (plus (bare (single (raised (named (codes "x")) a))) (single (raised (named (codes "y")) b))) (single (raised (named (codes "z")) c)))
       (times (times (single (plain (named (codes "x")))) (plain (named (codes "y")))) (plain (named (codes "z")))))
   sum_valid =
@@ -167,6 +174,7 @@ module _ (degree a b c : List ℕ) (hd : IsNumber degree) (ha : IsNumber a) (hb 
       let xyz : ValidTerm ring_known max_depth (times (times (single (plain (named (codes "x")))) (plain (named (codes "y")))) (plain (named (codes "z")))) = ((refl, refl), refl) in
       (((x, y), z), xyz)
 
+  -- so are the statements, each of which names what was declared before
   statements_valid : ValidStatements ring_known 0 (bench_tree degree a b c).statements
   statements_valid = (
     (record { named = refl; free = refl; room = omega arith }, sum_valid),
@@ -176,6 +184,7 @@ module _ (degree a b c : List ℕ) (hd : IsNumber degree) (ha : IsNumber a) (hb 
     ),
   )
 
+  -- so the tree is that of a script
   tree_valid : IsValid (bench_tree degree a b c)
   tree_valid = record { ring = ring_valid; noether = noether_valid; statements = statements_valid }
 

@@ -102,9 +102,11 @@ numbered_by solve ps a t = tt
 numbered_by check ps a t = tt
 numbered_by (bench k) ps a t = numeral_low ps a k t
 
+-- a list of words asks for one request at most
 pub one_request : (words : List (List ℕ)) (r q : Request) → Asks words r → Asks words q → r ≡ q
 one_request words r q (ps, a) (qs, b) = (one_line words r q ps qs a b).0
 
+-- and names one path at most
 pub one_path : (words : List (List ℕ)) (path other : List ℕ) → HasPath words path → HasPath words other → path ≡ other
 one_path words path other (r, ps, a, x) (q, qs, b, y) =
     let same = (one_line words r q ps qs a b).1 in

@@ -32,6 +32,7 @@ is_item bad rest = false
 is_item end rest = false
 is_item cut rest = false
 
+-- these pieces are what the bytes in front of the rest are spelled by
 abbrev pub are_pieces : List Piece → List ℕ → Bool
 are_pieces [] rest = true
 are_pieces (q ∷ qs) rest = list_all is_blank q.blanks && (is_item q.token (bytes_of qs rest) && are_pieces qs rest)
@@ -57,11 +58,13 @@ gaps_of : List ℕ → List Gap
 gaps_of [] = []
 gaps_of (b ∷ bs) = blank b ∷ gaps_of bs
 
+-- blanks are gaps
 gaps_valid : (bs : List ℕ) → list_all is_blank bs ≡ true → ValidGaps (gaps_of bs)
 unfolding gaps_of
 gaps_valid [] h = tt
 gaps_valid (b ∷ bs) h = let p = and_parts (is_blank b) (list_all is_blank bs) h in (p.0, gaps_valid bs p.1)
 
+-- and these gaps are spelled by them
 gaps_are : (bs : List ℕ) → gaps_bytes (gaps_of bs) ≡ bs
 unfolding gaps_of
 gaps_are [] = refl

@@ -17,6 +17,7 @@ use Rattle.local_std.proofs.Lines.{option_same, part_same, part_some, parts_same
 pub none_in : (n : ℕ) → true ≡ (n == 0) → n ≡ 0
 none_in n h = eqb-true n 0 (sym h)
 
+-- a length that was found not to be 0 is above 0
 pub some_in : (n : ℕ) → false ≡ (n == 0) → 0 < n
 some_in n h = let no = eqb-false n 0 (sym h) in omega (arith, no)
 
@@ -75,6 +76,7 @@ module _ (word : List ℕ) (rest : List (List ℕ)) where
 pub gives_cert : (form : Form) (path : Bor (List ℕ)) → 1 ≤ length path.now → IsValue form path.now → Gives (cert form path.now ∷ []) (record { number = None; cert = Some path })
 gives_cert form path some value = record { values = All-cons IsPart (cert form path.now) [] (some, value) (All-nil IsPart); numbers = refl; paths = refl }
 
+-- a numeral gives its number
 pub gives_number : (k : ℕ) → k ≤ max_bench → Gives (numeral k ∷ []) (record { number = Some k; cert = None })
 gives_number k low = record { values = All-cons IsPart (numeral k) [] low (All-nil IsPart); numbers = refl; paths = refl }
 
@@ -84,6 +86,7 @@ numerals_first : (part : Part) (parts : List Part) → numerals (part ∷ parts)
 numerals_first (numeral k) parts = refl
 numerals_first (cert form path) parts = refl
 
+-- so do its paths
 paths_first : (part : Part) (parts : List Part) → paths (part ∷ parts) ≡ paths (part ∷ []) ++ paths parts
 paths_first (numeral k) parts = refl
 paths_first (cert form path) parts = refl
@@ -112,9 +115,11 @@ module _ (words rest : List (List ℕ)) (part : Part) (is_part : IsPart part) (f
       let e = part_same q part (all_words qs) rest (All-head IsPart q qs are.values) is_part (sym are.spelled ∙ first) in
       (qs, ap (λ x. x ∷ qs) e.0, record { values = All-tail IsPart q qs are.values; spelled = sym e.1 })
 
+  -- the numbers that are given so far, with those of the part and the others, are those of all
   pub numbers_on : (before one more given : List ℕ) (parts : List Part) → more ≡ before ++ one → one ≡ numerals (part ∷ []) → given ≡ more ++ numerals parts → given ≡ before ++ numerals (part ∷ parts)
   numbers_on before one more given parts m o g = after_first before one more (numerals parts) (numerals (part ∷ parts)) given m (numerals_first part parts ∙ ap (λ l. l ++ numerals parts) (sym o)) g
 
+  -- so it is with the paths
   pub paths_on : (before one more given : List (List ℕ)) (parts : List Part) → more ≡ before ++ one → one ≡ paths (part ∷ []) → given ≡ more ++ paths parts → given ≡ before ++ paths (part ∷ parts)
   paths_on before one more given parts m o g = after_first before one more (paths parts) (paths (part ∷ parts)) given m (paths_first part parts ∙ ap (λ l. l ++ paths parts) (sym o)) g
 
