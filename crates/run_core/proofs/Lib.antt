@@ -10,6 +10,7 @@ pub mod Publishes
 pub mod Splits
 pub mod Joins
 pub mod Keeps
+pub mod Conditions
 pub mod Idle
 pub mod Opening
 pub mod Schedules

@@ -97,4 +97,4 @@ module _ (s : State) (i : ℕ) (v : Seat) (ok : IsSound s) (at : IsAt s i v) whe
 
 -- Look
 pub keeps_look : (s t : State) (i : ℕ) → IsSound s → Makes Look s i t → IsSound t
-keeps_look s t i ok m = ⊎_elim (λ x. subst IsSound (sym x.1) (keeps_learnt s i m.0 ok m.1 x.0)) (λ x. subst IsSound (sym x.1) (keeps_rested s i m.0 ok m.1 x.0)) m.2
+keeps_look s t i ok m = ⊎_elim (λ x. subst IsSound (sym x.1) (keeps_learnt s i m.0 ok m.1 x.0)) (λ x. subst IsSound (sym x.1) (keeps_rested s i m.0 ok m.1 x.0)) m.3

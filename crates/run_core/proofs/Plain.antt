@@ -93,7 +93,7 @@ module _ (b : Plain) where
   )
     where
       rests : Makes Look (plain b) 0 (with_seat (plain b) 0 (rested (plain_seat b)))
-      rests = (plain_seat b, refl, inr ((refl, ap (λ l. has_open b.problem l b.hand) all ∙ shut, done), refl))
+      rests = (plain_seat b, refl, (λ e. absurd (cc)), inr ((refl, ap (λ l. has_open b.problem l b.hand) all ∙ shut, done), refl))
 
       idle : AllIdle (with_seat (plain b) 0 (rested (plain_seat b)))
       idle zero v at full = ap (λ (z : Seat). z.idle) (sym (some-injective (rested (plain_seat b)) v at))

@@ -1,7 +1,7 @@
 -- Publish keeps states sound.
 -- The draft is legal after the entries and settles the ticket of its hand; what the other seats know stays as it is.
-use Rattle.std.proofs.Common.{◌≡◌, ◌≢◌, ℕ, suc, ◌≤◌, Bool, true, false, true≢false, List, [], ◌∷◌, ◌++◌, length, take, set, Option, Some, None, refl, sym, ap, ◌∙◌, subst, inl, inr, ⊎_elim, arith, lt_of_lt_of_le, le_trans, length-append}
-use Rattle.std.proofs.lemmas.List.{take-append-le, take_all, get_or_at}
+use Rattle.std.proofs.Common.{◌≡◌, ◌≢◌, ℕ, suc, ◌<◌, ◌≤◌, Bool, true, false, true≢false, List, [], ◌∷◌, ◌++◌, length, take, set, Option, Some, None, refl, sym, ap, ◌∙◌, subst, inl, inr, ⊎_elim, arith, lt_of_lt_of_le, le_trans, length-append}
+use Rattle.std.proofs.lemmas.List.{take-append-le, length-take-le, take_all, get_or_at}
 use Rattle.std.proofs.lemmas.List.Sums.{sum_by-append}
 use Rattle.sparse_poly.specs.Ideal.{Problem}
 use Rattle.entry_code.specs.Entry.{Entry, no_entry}
@@ -34,9 +34,9 @@ unfolding is_open
 marked_shut P known None = refl
 marked_shut P known (Some h) = refl
 
--- and as sound as before
-hand_marked : (P : Problem) (word ticket : ℕ) (known : List Entry) (h : Hand) → IsHandSound P word ticket known h → IsHandSound P word ticket known (record h { published = true })
-hand_marked P word ticket known h s = record { below = s.below; within = s.within; orderly = s.orderly; corners = s.corners; before = s.before }
+-- and as sound as before, where more is known than at its last reading
+hand_marked : (P : Problem) (word ticket : ℕ) (known : List Entry) (h : Hand) → IsHandSound P word ticket known h → last_known 0 h.reads < length known → IsHandSound P word ticket known (record h { published = true })
+hand_marked P word ticket known h s more = record { below = s.below; within = s.within; orderly = s.orderly; corners = s.corners; before = s.before; begun = s.begun; marked = λ _. more }
 
 module _ (s : State) (i : ℕ) (v : Seat) (ok : IsSound s) (at : IsAt s i v) (can : CanPublish s v) where
   -- the seat knows the whole list
@@ -59,6 +59,13 @@ module _ (s : State) (i : ℕ) (v : Seat) (ok : IsSound s) (at : IsAt s i v) (ca
   more : IsPrefix (known_by s v) (take (suc v.known) (s.entries ++ draft_by s v ∷ []))
   more = subst (λ l. IsPrefix l (take (suc v.known) (s.entries ++ draft_by s v ∷ []))) (same_known v.known (omega (arith, can.1)))
       (take_prefix (s.entries ++ draft_by s v ∷ []) v.known (suc v.known) (omega arith) (omega (arith, size, can.1)))
+
+  -- more is known than at the last reading
+  later : (h : Hand) → v.hand ≡ Some h → last_known 0 h.reads < length (take (suc v.known) (s.entries ++ draft_by s v ∷ []))
+  later h e =
+      let n = length-take-le (suc v.known) (s.entries ++ draft_by s v ∷ []) (omega (arith, size, can.1)) in
+      let k : last_known 0 h.reads ≡ v.known = ap (λ o. last_known 0 (reads_of o)) (sym e) ∙ can.3 in
+      omega (arith, n, k)
 
   -- the draft is that of the hand
   draft_is : (h : Hand) → v.hand ≡ Some h → draft_by s v ≡ draft_of s.problem (known_by s v) h
@@ -123,7 +130,7 @@ module _ (s : State) (i : ℕ) (v : Seat) (ok : IsSound s) (at : IsAt s i v) (ca
               hand = λ k e. let r = marked_hand v.hand k e in
                   subst (IsHandSound s.problem s.corner s.ticket (take (suc v.known) (s.entries ++ draft_by s v ∷ []))) r.2
                   (hand_marked s.problem s.corner s.ticket (take (suc v.known) (s.entries ++ draft_by s v ∷ [])) r.0
-                  (hand_longer s.problem s.corner s.ticket (known_by s v) (take (suc v.known) (s.entries ++ draft_by s v ∷ [])) r.0 more (mine.hand r.0 r.1)));
+                  (hand_longer s.problem s.corner s.ticket (known_by s v) (take (suc v.known) (s.entries ++ draft_by s v ∷ [])) r.0 more (mine.hand r.0 r.1)) (later r.0 r.1));
               idle = λ _. marked_shut s.problem (take (suc v.known) (s.entries ++ draft_by s v ∷ [])) v.hand;
               alone = λ e. absurd (true≢false (sym e ∙ marked_shut s.problem (take (suc v.known) (s.entries ++ draft_by s v ∷ [])) v.hand));
               spent = λ e. absurd (numbered e);

@@ -7,8 +7,6 @@ use mathlib.Core.Option.{some}
 use lib.ListN.{get_elem?}
 use Rattle.sparse_poly.specs.Ideal.{Problem}
 use Rattle.mora_law.specs.Ring.{IsAdmissible}
-use Rattle.mora_law.specs.declared.step_end.StepEnd.{StepEnd}
-use Rattle.mora_law.specs.declared.step_end.StepEnd.TheVariants.{Zero, Reduced, Stuck}
 use Rattle.mora_law.specs.Run.{last_known}
 use Rattle.run_core.specs.declared.event.Event.{Event}
 use Rattle.run_core.specs.declared.event.Event.TheVariants.{Claim, Corner, Look, Publish, Split, Join}
@@ -70,13 +68,14 @@ named_is k (n ∷ ns) e = ((λ z. absurd (cc)), eqb-true k (lowest (n ∷ ns)) e
 -- ---- events
 module _ (s : State) (f : Found) (at : IsAt s f.place f.seat) (t : State) where
   -- Look by its tests is Look
-  look_makes : next_look s f ≡ Some t → Makes Look s f.place t
-  look_makes e = go (ltb f.seat.known (length s.entries)) refl
+  look_makes : f.seat.numbers ≢ [] → next_look s f ≡ Some t → Makes Look s f.place t
+  look_makes full e = go (ltb f.seat.known (length s.entries)) refl
     where
       go : (b : Bool) → ltb f.seat.known (length s.entries) ≡ b → Makes Look s f.place t
       go true is = (
         f.seat,
         at,
+        full,
         inl (
           ltb-true f.seat.known (length s.entries) is,
           (holds true (with_seat s f.place (learnt f.seat)) t
@@ -88,7 +87,7 @@ module _ (s : State) (f : Found) (at : IsAt s f.place f.seat) (t : State) where
           (ap (λ b. cond b (Some (with_seat s f.place (learnt f.seat))) (where_true (eqb f.seat.known (length s.entries) && (not (is_busy s f.seat) && leb (tickets s.problem f.seat.known) f.seat.seen)) (with_seat s f.place (rested f.seat)))) (sym is) ∙ e) in
           let a = and_true (eqb f.seat.known (length s.entries)) (not (is_busy s f.seat) && leb (tickets s.problem f.seat.known) f.seat.seen) h.0 in
           let b = and_true (not (is_busy s f.seat)) (leb (tickets s.problem f.seat.known) f.seat.seen) a.1 in
-          (f.seat, at, inr ((eqb-true f.seat.known (length s.entries) a.0, is_not (is_busy s f.seat) b.0, leb-true (tickets s.problem f.seat.known) f.seat.seen b.1), h.1))
+          (f.seat, at, full, inr ((eqb-true f.seat.known (length s.entries) a.0, is_not (is_busy s f.seat) b.0, leb-true (tickets s.problem f.seat.known) f.seat.seen b.1), h.1))
 
   -- the name of the seat is in use
   join_makes : (k name : ℕ) → is_named name f.seat.numbers ≡ true → (o : Option Found) → find_seat k 0 s.seats ≡ o → next_join s f o ≡ Some t → Makes (Join k) s f.place t
@@ -117,7 +116,7 @@ module _ (s : State) (f : Found) (at : IsAt s f.place f.seat) (t : State) where
       let b = and_true (eqb (length f.seat.numbers) 1) (ltb f.seat.seen (tickets s.problem f.seat.known)) a.1 in
       (f.seat, at, (is_not (is_busy s f.seat) a.0, eqb-true (length f.seat.numbers) 1 b.0, ltb-true f.seat.seen (tickets s.problem f.seat.known) b.1), h.1)
   at_makes name named Corner e = let h = holds (is_busy s f.seat) (after_corner s f.place f.seat) t e in (f.seat, at, h.0, h.1)
-  at_makes name named Look e = look_makes e
+  at_makes name named Look e = look_makes (named_is name f.seat.numbers named).0 e
   at_makes name named Publish e =
       let ends = is_stuck (hand_end s.problem (known_by s f.seat) f.seat.hand) in
       let knows = eqb (last_known 0 (reads_of f.seat.hand)) f.seat.known in

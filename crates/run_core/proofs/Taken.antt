@@ -116,7 +116,7 @@ module _ (s : State) (ok : IsSound s) where
   at_taken : (i : ℕ) (t : State) (event : Event) → Makes event s i t → (v : Seat) × IsAt s i v × (next_at event s (record { place = i; seat = v }) ≡ Some t)
   at_taken i t Claim m = (m.0, m.1, claim_taken i m.0 t m.2 m.3)
   at_taken i t Corner m = (m.0, m.1, made (is_busy s m.0) (after_corner s i m.0) t m.2 m.3)
-  at_taken i t Look m = (m.0, m.1, look_taken i m.0 t m.2)
+  at_taken i t Look m = (m.0, m.1, look_taken i m.0 t m.3)
   at_taken i t Publish m = (m.0, m.1, publish_taken i m.0 t m.2 m.3)
   at_taken i t (Split k) m = (m.0, m.1, split_taken i m.0 t k m.2 m.3)
   at_taken i t (Join k) m = (m.0, m.3, join_taken i m.0 t k m.1 m.2 m.4 m.5 m.6 m.7)

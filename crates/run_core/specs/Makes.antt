@@ -41,7 +41,7 @@ CanJoin s k v w = (is_busy s v ≡ false) × (is_busy s w ≡ false) × (v.numbe
 abbrev pub Makes : Event → State → ℕ → State → Type 0
 Makes Claim s i t = (v : Seat) × IsAt s i v × CanClaim s v × (t ≡ after_claim s i v)
 Makes Corner s i t = (v : Seat) × IsAt s i v × CanCorner s v × (t ≡ after_corner s i v)
-Makes Look s i t = (v : Seat) × IsAt s i v × ((CanLearn s v × (t ≡ with_seat s i (learnt v))) ⊎ (CanRest s v × (t ≡ with_seat s i (rested v))))
+Makes Look s i t = (v : Seat) × IsAt s i v × (v.numbers ≢ []) × ((CanLearn s v × (t ≡ with_seat s i (learnt v))) ⊎ (CanRest s v × (t ≡ with_seat s i (rested v))))
 Makes Publish s i t = (v : Seat) × IsAt s i v × CanPublish s v × (t ≡ after_publish s i v)
 Makes (Split k) s i t = (v : Seat) × IsAt s i v × CanSplit s k v × (t ≡ after_split s i v)
 Makes (Join k) s i t = (v : Seat) × (j : ℕ) × (w : Seat) × IsAt s i v × IsAt s j w × (i ≢ j) × CanJoin s k v w × (t ≡ after_join s i v j w)

@@ -1,27 +1,32 @@
 -- What every state keeps.
-use Rattle.std.specs.Prelude.{◌≡◌, ◌≢◌, ◌⊎◌, ℕ, ◌<◌, ◌≤◌, true, false, List, [], length, take, sum_by, Some, None, if◌then◌else◌, nat_lt}
+use Rattle.std.specs.Prelude.{◌≡◌, ◌≢◌, ◌⊎◌, ℕ, ◌<◌, ◌≤◌, true, false, List, [], ◌∷◌, length, take, sum_by, Some, None, if◌then◌else◌, nat_lt}
 use mathlib.Core.Option.{some}
 use lib.ListN.{get_elem?}
 use Rattle.sparse_poly.specs.Ideal.{Problem}
 use Rattle.entry_code.specs.Entry.{Entry}
 use Rattle.mora_law.specs.Ring.{ranks_of_problem, IsAdmissible}
 use Rattle.mora_law.specs.declared.step_end.StepEnd.TheVariants.{Reduced}
-use Rattle.mora_law.specs.Run.{AreOrderly}
+use Rattle.entry_code.specs.declared.reading.Reading.{Reading}
+use Rattle.mora_law.specs.Run.{AreOrderly, last_known}
 use Rattle.mora_law.specs.Entries.{basis_of, corner}
 use Rattle.mora_law.specs.Legal.{HaveCorners, Legal}
 use Rattle.mora_law.specs.Settled.{IsSettled}
 use Rattle.mora_law.specs.Items.{item_for, tickets}
-use Rattle.run_core.specs.Hand.{Hand, end_of, is_open, has_open}
+use Rattle.run_core.specs.Hand.{Hand, end_of, is_skipped, is_open, has_open}
 use Rattle.run_core.specs.State.{Seat, State, count_of, times, steps_of}
 
 -- a hand of a seat that knows these entries: its ticket was claimed and is one of theirs, along its readings the number known
--- never falls and corners never rise, each is between the corner word and the corner of what was known, and each but the last ended with Reduced
+-- never falls and corners never rise, each is between the corner word and the corner of what was known, and each but the last ended with
+-- Reduced. Its first reading came when the ticket was one of the entries then known, and its pair isn't skipped. Once its entry is published,
+-- more is known than at its last reading
 pub record IsHandSound (P : Problem) (word ticket : ℕ) (known : List Entry) (h : Hand) : Type 0 where
   pub below : h.ticket < ticket
   pub within : h.ticket < tickets P (length known)
   pub orderly : AreOrderly (length known) 0 (count_of P) h.reads
   pub corners : HaveCorners (ranks_of_problem P) (basis_of known) word h.reads
   pub before : (j : ℕ) → 0 < j → j < length h.reads → end_of P known h.ticket (take j h.reads) ≡ Some Reduced
+  pub begun : (d : Reading) (ds : List Reading) → h.reads ≡ d ∷ ds → (h.ticket < tickets P d.known) × (is_skipped P known (item_for P h.ticket) ≡ false)
+  pub marked : h.published ≡ true → last_known 0 h.reads < length known
 
 -- a seat that knows these of so many entries
 pub record IsSeatSound (P : Problem) (word ticket count : ℕ) (list : List Entry) (v : Seat) : Type 0 where

@@ -2,6 +2,7 @@
 
 ghost use Rattle.std.specs.Prelude.{◌≡◌, ◌≢◌, ◌+◌, ◌<◌, ◌≤◌, ℕ, suc, min, true, false, List, [], ◌∷◌, ◌++◌, length, Option};
 ghost use Rattle.sparse_poly.specs.Ideal.{Problem};
+ghost use Rattle.entry_code.specs.Entry.{Entry};
 ghost use Rattle.mora_law.specs.Ring.{IsAdmissible};
 ghost use Rattle.mora_law.specs.declared.step_end.StepEnd.TheVariants.{Stuck};
 ghost use Rattle.mora_law.specs.Run.{last_known};
@@ -11,7 +12,7 @@ ghost use Rattle.mora_law.specs.Examples.{racing_entries};
 ghost use Rattle.run_core.specs.declared.event.Event.{Event};
 ghost use Rattle.run_core.specs.declared.event.Event.TheVariants.{Claim, Corner, Publish};
 ghost use Rattle.run_core.specs.Hand.{Hand, hand_of, has_open, hand_end, reads_of, read, draft, marked};
-ghost use Rattle.run_core.specs.State.{Seat, State, IsAt, count_of, lowest, opening};
+ghost use Rattle.run_core.specs.State.{Seat, State, IsAt, count_of, known_by, is_busy, lowest, opening};
 ghost use Rattle.run_core.specs.Effects.{draft_by};
 ghost use Rattle.run_core.specs.Sound.{IsSound};
 ghost use Rattle.run_core.specs.Makes.{CanPublish, Makes};
@@ -37,6 +38,28 @@ pub fn names_are_places()
 /// What a sound state tells of one seat.
 pub fn seats_are_within()
     ensures { (s : State) (i : ℕ) (v : Seat) → IsSound s → IsAt s i v → IsWithin s v }
+{}
+
+/// A seat that knows the whole list, and whose run is stuck by a last reading that knew it all, may publish: its hand is open.
+pub fn publishes_with_an_open_hand()
+    ensures { (s : State) (i : ℕ) (v : Seat) → IsSound s → IsAt s i v → v.known ≡ length s.entries
+        → hand_end s.problem (known_by s v) v.hand ≡ Some Stuck → last_known 0 (reads_of v.hand) ≡ v.known → CanPublish s v }
+{}
+
+/// A seat that was joined away, which has no numbers, makes no event.
+pub fn spent_seats_rest()
+    ensures { (s : State) (t : State) (i : ℕ) (v : Seat) (e : Event) → IsSound s → IsAt s i v → v.numbers ≡ [] → Makes e s i t → ⊥ }
+{}
+
+/// Over the whole list a seat's hand is open exactly where it is over the entries that the seat knows, and its run ends alike.
+pub fn hands_read_alike()
+    ensures opened { (s : State) (i : ℕ) (v : Seat) → IsSound s → IsAt s i v → has_open s.problem s.entries v.hand ≡ is_busy s v }
+    ensures ends { (s : State) (i : ℕ) (v : Seat) → IsSound s → IsAt s i v → hand_end s.problem s.entries v.hand ≡ hand_end s.problem (known_by s v) v.hand }
+{}
+
+/// The corner never rises when entries are added.
+pub fn corner_never_rises()
+    ensures { (P : Problem) (entries : List Entry) (more : List Entry) → IsAdmissible P → corner P (entries ++ more) ≤ corner P entries }
 {}
 
 /// A draft that may be published has at most as many readings and terms in all as there are monomials, and one more. There is a
