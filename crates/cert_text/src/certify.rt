@@ -4,6 +4,7 @@ ghost use Rattle.std.specs.Prelude.{◌≡◌, ◌≤◌, length, map, All, IfOk
 ghost use Rattle.local_order.specs.Mono.{degree};
 ghost use Rattle.mono_rank.specs.Rank.{rank_of};
 ghost use Rattle.sparse_poly.specs.Poly.{HasDegreeAtMost};
+ghost use Rattle.sparse_poly.specs.Shape.{shape_of};
 ghost use Rattle.entry_code.specs.Entry.{entry_of as stored_entry};
 ghost use Rattle.cert_grammar.specs.Cert.{IsBlock};
 ghost use Rattle.cert_grammar.specs.Certified.{terms_by_rank, run_entry as entry_by_rank, answer_in, corner_in, certified_of};
@@ -12,7 +13,7 @@ ghost use Rattle.cert_text.specs.Ranked.{IsRanked};
 use cert_grammar::{Block as BlockLines, Certified, Entry as EntryLines, Verdict};
 use entry_code::{Entries, Entry, Reading, Reads, Term, Terms};
 use local_order::Mono;
-use mono_rank::RankTable;
+use mono_rank::{RankError, RankTable};
 use sparse_poly::{Poly, Polys, Problem};
 use std::alloc::{AllocError, Global};
 use text_out::{Answer, Monos};
@@ -105,6 +106,18 @@ fn answer_of(verdict: Verdict) -> (Answer, Option<Mono>)
     }
 }
 
+/// The ranks of the problem's monomials, of which there are never too many.
+fn table_of(alloc: Global, problem: &Problem) -> Result<RankTable, AllocError>
+    ensures { IfOk result (λ t. t ≡ shape_of problem.now) }
+{
+    let _field = problem.field();
+    match RankTable::new(alloc, problem.n(), problem.d()) {
+        Ok(table) => Ok(table),
+        Err(RankError::Memory) => Err(AllocError),
+        Err(RankError::TooManyMonomials(_)) => unreachable!(),
+    }
+}
+
 /// What the lines of a block certify.
 pub(crate) fn certify(alloc: Global, block: BlockLines) -> Result<Certified, AllocError>
     requires { IsBlock block }
@@ -114,12 +127,10 @@ pub(crate) fn certify(alloc: Global, block: BlockLines) -> Result<Certified, All
     let letters = *ring.letters();
     let n = letters.len() as u32;
     let d = ring.d();
-    let Ok(table) = RankTable::new(alloc, n, d) else {
-        return Err(AllocError);
-    };
+    let problem = Problem::new(*ring.field(), n, d, Polys::from_vec(gens));
+    let table = table_of(alloc, &problem)?;
     let entries = run_entries(alloc, &table, &lines)?;
     let (answer, corner) = answer_of(verdict);
-    let problem = Problem::new(*ring.field(), n, d, Polys::from_vec(gens));
     Ok(Certified {
         letters,
         problem,

@@ -20,7 +20,7 @@ use crate::verdict::end_text;
 use cert_grammar::Ring;
 use entry_code::{Entries, Entry};
 use io_edge::{Sink, write_all_counted};
-use mono_rank::RankTable;
+use mono_rank::{RankError, RankTable};
 use sparse_poly::{Letters, Problem};
 use std::alloc::{AllocError, Global};
 use text_out::Answer;
@@ -60,6 +60,18 @@ fn write_entries<C: Sink>(
     Ok(())
 }
 
+/// The ranks of the problem's monomials, of which there are never too many.
+fn table_of(alloc: Global, problem: &Problem) -> Result<RankTable, AllocError>
+    ensures { IfOk result (λ t. t ≡ shape_of problem.now) }
+{
+    let _field = problem.field();
+    match RankTable::new(alloc, problem.n(), problem.d()) {
+        Ok(table) => Ok(table),
+        Err(RankError::Memory) => Err(AllocError),
+        Err(RankError::TooManyMonomials(_)) => unreachable!(),
+    }
+}
+
 /// Writes the block of a problem with its number: how each entry came, and the answer.
 /// It makes the text of one entry at a time.
 pub fn write_block<C: Sink>(
@@ -78,7 +90,7 @@ pub fn write_block<C: Sink>(
         (lines_text (block_lines index (block_of (claim letters.now problem.now entries.now answer.now)))) }
 {
     let ring = Ring::new(*problem.field(), *letters, problem.d());
-    let Ok(table) = RankTable::new(alloc, problem.n(), problem.d()) else {
+    let Ok(table) = table_of(alloc, problem) else {
         return Err(CertWriteError::Memory);
     };
     let front = front_text(alloc, index, &ring, problem.gens(), entries.len());
