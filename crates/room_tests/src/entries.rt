@@ -1,8 +1,11 @@
-//! Lists of an entry: with room for one member, then with two of them, and empty again.
+//! Lists of an entry: with room for one member, then with two of them, and empty again. The words of an entry, back and forth.
 
 ghost use Rattle.std.specs.Prelude.{◌≡◌, length, IfOk};
 
-use entry_code::{Entries, Entry, Item, Reading, Reads, Term, Terms};
+use crate::build::field;
+use entry_code::{
+    Entries, Entry, Item, Reading, Reads, Term, Terms, read_words, word_at, word_count,
+};
 use std::alloc::{AllocError, Global};
 use std::test::Fail;
 
@@ -73,5 +76,55 @@ fn entries(rt: HostRuntime) -> Result<(), Fail> {
     let (first, second) = (entries.get(0), entries.get(1));
     assert!(rt; [first.item, second.item] == [Item::Generator(0), Item::Pair(0, 1)]);
     assert!(rt; [first.reads.len(), first.terms.len(), second.terms.len()] == [0, 0, 1]);
+    Ok(())
+}
+
+/// The words of a worked entry: the generator 1, three readings (1, 15), and the monomial of rank 9.
+const WORDS: [u64; 7] = [1, 3, 1, 65551, 65551, 65551, 38654705665];
+
+#[test]
+fn words(rt: HostRuntime) -> Result<(), Fail> {
+    let field = field(32003)?;
+    let mut entry = Entry::room(rt.alloc(), 15)?;
+    assert!(rt; read_words(&WORDS, &field, 15, &mut entry));
+    assert!(rt; entry.reads.len() == 3 && entry.terms.len() == 1);
+    let (reading, term) = (entry.reads.get(2), entry.terms.get(0));
+    assert!(rt; (reading.known, reading.corner, term.rank, term.coef) == (1, 15, 9, 1));
+    assert!(rt; word_count(&entry) == 7);
+    let same = word_at(&entry, 0) == WORDS[0] && word_at(&entry, 2) == WORDS[2];
+    assert!(rt; same && word_at(&entry, 5) == WORDS[5] && word_at(&entry, 6) == WORDS[6]);
+    assert!(rt;
+        !read_words(
+            &[1, 4, 1, 65551, 65551, 65551, 38654705665],
+            &field,
+            15,
+            &mut entry
+        )
+    );
+    assert!(rt;
+        !read_words(
+            &[1, 3, 1, 65551, 65551, 65551, 38654705665, 0],
+            &field,
+            15,
+            &mut entry
+        )
+    );
+    assert!(rt;
+        !read_words(
+            &[1, 1, 2, 65551, 38654705665, 12884901890],
+            &field,
+            15,
+            &mut entry
+        )
+    );
+    assert!(rt;
+        read_words(
+            &[4294967297, 1, 1, 65551, 38654705665],
+            &field,
+            15,
+            &mut entry
+        )
+    );
+    assert!(rt; entry.item == Item::Pair(0, 1));
     Ok(())
 }
