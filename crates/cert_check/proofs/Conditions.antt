@@ -21,7 +21,7 @@ use Rattle.text_out.specs.declared.answer.Answer.TheVariants.{Fits, TooSmall}
 use Rattle.cert_grammar.specs.declared.certified.Certified.{Certified}
 use Rattle.cert_check.specs.Accepted.{IsDivided, AreDivided, IsVerdict}
 use Rattle.cert_check.specs.Checks.{Check, item, known, corner as corner_check, run, terms, tickets, verdict, count, member, highest, stair, IsKnown, IsCornerOf, IsCounted, IsMember, IsStair, Holds}
-use Rattle.cert_check.proofs.TicketParts.{divided_from, divided_generators, divided_pairs}
+use Rattle.cert_check.proofs.TicketParts.{tickets_from, generators_of_tickets, pairs_of_tickets}
 use Rattle.cert_check.proofs.Decide.{Decided, decided_by, decided_both, decided_either, decided_not, decided_if, decided_each, decided_lt, decided_le, decided_nat, decided_list, decided_option, decided_is_some}
 use Rattle.cert_check.proofs.Monomials.{decided_first, decided_free}
 
@@ -88,7 +88,8 @@ module _ (P : Problem) (entries : List Entry) where
 
   -- whether each ticket is skipped or leaves nothing
   decided_divided : Decided (AreDivided P entries)
-  decided_divided = decided_by (λ x. divided_from P entries x.0 x.1) (λ h. (divided_generators P entries h, divided_pairs P entries h)) (decided_both
+  decided_divided = decided_by (λ x. tickets_from (length P.gens) (length entries) (IsDivided P entries) x.0 x.1)
+      (λ h. (generators_of_tickets (length P.gens) (length entries) (IsDivided P entries) h, pairs_of_tickets (length P.gens) (length entries) (IsDivided P entries) h)) (decided_both
       (decided_each (λ g. IsDivided P entries (Generator g)) (λ g. one (Generator g)) (length P.gens))
       (decided_each (λ j. (i : ℕ) → i < j → IsDivided P entries (Pair i j)) (λ j. decided_each (λ i. IsDivided P entries (Pair i j)) (λ i. one (Pair i j)) j) (length entries)))
     where

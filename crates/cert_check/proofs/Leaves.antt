@@ -11,7 +11,6 @@ use Rattle.mono_rank.specs.Rank.{mono_at}
 use Rattle.rank_algebra.specs.Vector.{Vector, Agree}
 use Rattle.rank_algebra.specs.Division.{remainder}
 use Rattle.rank_algebra.proofs.Linear.{agree_sym, agree_trans}
-use Rattle.rank_algebra.proofs.Division.{remainder_agree}
 use Rattle.rank_algebra.proofs.Corner.{corner_is}
 use Rattle.mora_law.specs.Ring.{numbering_of, ranks_of_problem, IsAdmissible, generators_of}
 use Rattle.mora_law.specs.Entries.{basis_of, lead_rank, corner, leads}
@@ -20,6 +19,7 @@ use Rattle.mora_law.specs.Settled.{LeavesNothing}
 use Rattle.mora_law.proofs.Ring.{numbering_is, ranks_count, ranks_are}
 use Rattle.cert_check.specs.Accepted.{IsDivided}
 use Rattle.cert_check.specs.Sparse.{IsClean, AreEntries}
+use Rattle.cert_check.proofs.Dividing.{remainder_below}
 use Rattle.cert_check.proofs.MonicTerms.{zero_of_nothing, nothing_of_zero}
 
 -- one lead more
@@ -55,7 +55,7 @@ corner_within P h entries = (corner_is (ranks_of_problem P) (ranks_are P h) (bas
 
 -- division leaves nothing exactly where the map is empty at the end
 pub leaves_is : (P : Problem) → IsAdmissible P → (entries : List Entry) (item : Item) (v u : Vector) (w : ℕ) → w ≡ corner P entries
-    → Agree (ranks_of_problem P) (ranks_of_problem P).n v (start P entries item) → Agree (ranks_of_problem P) (ranks_of_problem P).n u (remainder (ranks_of_problem P) (basis_of entries) w v) → IsClean P u
+    → Agree (ranks_of_problem P) w v (start P entries item) → Agree (ranks_of_problem P) (ranks_of_problem P).n u (remainder (ranks_of_problem P) (basis_of entries) w v) → IsClean P u
     → ((r : ℕ) → u r ≡ 0) ↔ LeavesNothing (ranks_of_problem P) (generators_of P) entries item
 leaves_is P h entries item v u w e a b clean = (
   λ z. agree_trans (agree_sym told) (nothing_of_zero (ranks_of_problem P) u z),
@@ -64,7 +64,7 @@ leaves_is P h entries item v u w e a b clean = (
   where
     told : Agree (ranks_of_problem P) (ranks_of_problem P).n u (remainder (ranks_of_problem P) (basis_of entries) (corner P entries) (start P entries item))
     told = agree_trans (subst (λ x. Agree (ranks_of_problem P) (ranks_of_problem P).n u (remainder (ranks_of_problem P) (basis_of entries) x v)) e b)
-        (remainder_agree (ranks_of_problem P) (basis_of entries) (corner P entries) 0 v (start P entries item) (let z = corner_within P h entries in omega (arith, z)) a)
+        (remainder_below (ranks_of_problem P) (basis_of entries) (corner P entries) (corner P entries) 0 v (start P entries item) (omega arith) (subst (λ x. Agree (ranks_of_problem P) x v (start P entries item)) e a))
 
 -- a generator is divided exactly where nothing is left of it
 pub generator_is : (P : Problem) (entries : List Entry) (g : ℕ) → IsDivided P entries (Generator g) → LeavesNothing (ranks_of_problem P) (generators_of P) entries (Generator g)

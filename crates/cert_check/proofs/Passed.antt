@@ -1,9 +1,10 @@
--- The answer of the checks behind the entries.
+-- The answer of the checks behind the entries, which are legal.
 -- After `fits` the members come first, then the highest corner and the staircase.
 use Rattle.std.proofs.Common.{◌≡◌, ℕ, ◌+◌, List, [], ◌∷◌, ◌++◌, length, All, Option, Some, None, refl, sym, ◌∙◌, ap, subst, arith}
 use Rattle.std.specs.Prelude.{IfNone}
 use Rattle.sparse_poly.specs.Poly.{Polynomial}
 use Rattle.mora_law.specs.Basis.{basis}
+use Rattle.mora_law.specs.Legal.{Legal}
 use Rattle.mora_law.proofs.Ring.{problem_is_admissible}
 use Rattle.text_out.specs.declared.answer.Answer.{Answer}
 use Rattle.text_out.specs.declared.answer.Answer.TheVariants.{Fits}
@@ -14,12 +15,12 @@ use Rattle.cert_check.specs.declared.reason.Reason.TheVariants as reasons
 use Rattle.cert_check.specs.Block.{IsRead}
 use Rattle.cert_check.specs.Accepted.{IsFreeList, highest_corner, IsAcceptedBlock}
 use Rattle.cert_check.specs.Right.{IsRight}
-use Rattle.cert_check.specs.Checks.{count, highest, stair, member, member_checks, answer_checks, checks, verdict_line, Holds}
+use Rattle.cert_check.specs.Checks.{count, highest, stair, member, entries_checks, member_checks, answer_checks, checks, verdict_line, Holds}
 use Rattle.cert_check.specs.Fault.{IsFirstFaultIn}
 use Rattle.cert_check.specs.Answers.{HasMembers, IsWrongMember, IsAnswered}
-use Rattle.cert_check.proofs.Accepted.{accepted_is_checked}
+use Rattle.cert_check.proofs.Accepted.{legal_is_checked, accepted_is_checked}
 use Rattle.cert_check.proofs.Answered.{members_fault}
-use Rattle.cert_check.proofs.Every.{Every, every_all, every_append, members_every}
+use Rattle.cert_check.proofs.Every.{Every, every_all, all_every, every_append, members_every}
 use Rattle.cert_check.proofs.Faults.{fault_left, fault_right, fault_here}
 use Rattle.cert_check.proofs.Right.{right}
 
@@ -71,6 +72,10 @@ module _ (b : Certified) (gs : List Polynomial) (s : List (List ℕ)) where
       (every_all (Holds (with (Fits gs s))) (answer_checks (Fits gs s)) (every_append (Holds (with (Fits gs s))) (count ∷ member_checks (length gs) 0) (highest ∷ stair ∷ []) (passed many h) (c, (f, tt))))
 
 -- ---- the whole block
+-- where the checks of the entries hold they are legal
+pub legal_by : (b : Certified) → IsRead b → All (Holds b) (entries_checks 0 b.entries) → Legal b.problem b.entries
+legal_by b r h = (legal_is_checked b r).1 (all_every (Holds b) (entries_checks 0 b.entries) h)
+
 -- where no check fails the block is accepted
 pub accepted_by : (b : Certified) → IsRead b → (o : Option Fault) → IsAnswered b (checks b) o → IfNone o (IsAcceptedBlock b)
 accepted_by b r None a = (accepted_is_checked b r).1 a

@@ -16,7 +16,7 @@ use Rattle.mora_law.specs.Entries.{basis_of}
 use Rattle.mora_law.specs.Start.{start}
 use Rattle.mora_law.specs.Basis.{basis}
 use Rattle.mora_law.specs.Legal.{IsItemOf, Legal}
-use Rattle.mora_law.specs.Settled.{HasEntry, IsSettled, LeavesNothing, AllSettled}
+use Rattle.mora_law.specs.Settled.{IsSettled, LeavesNothing, AllSettled}
 use Rattle.mora_law.proofs.Ring.{ranks_are}
 use Rattle.mora_law.proofs.Legal.{entries_in, in_space, in_closed, in_gens}
 use Rattle.mora_law.proofs.SettledByRank.{settled_by_rank}
@@ -28,7 +28,7 @@ use Rattle.text_out.specs.declared.answer.Answer.{Answer}
 use Rattle.text_out.specs.declared.answer.Answer.TheVariants.{Fits, TooSmall}
 use Rattle.cert_grammar.specs.declared.certified.Certified.{Certified}
 use Rattle.cert_check.specs.Block.{terms_of_each}
-use Rattle.cert_check.specs.Accepted.{IsDivided, AreDivided, OthersAreDivided, IsFirstFree, IsVerdict, IsFreeList, IsAfterFits, IsAcceptedBlock}
+use Rattle.cert_check.specs.Accepted.{IsDivided, AreDivided, IsDone, OthersAreDivided, IsFirstFree, IsVerdict, IsFreeList, IsAfterFits, IsAcceptedBlock}
 use Rattle.cert_check.specs.Right.{IsRight}
 use Rattle.cert_check.proofs.Right.{corner_is_last}
 
@@ -111,7 +111,7 @@ module _ (P : Problem) (h : IsAdmissible P) (entries : List Entry) (legal : Lega
 pub others_divided : (P : Problem) (entries : List Entry) → IsAdmissible P → Legal P entries → AreDivided P entries ↔ OthersAreDivided P entries
 others_divided P entries h legal = ((λ d item t l. inr (d item t l)), (λ f. divided P h entries legal (λ item t l. go item (f item t l))))
   where
-    go : (item : Item) → HasEntry entries item ⊎ IsDivided P entries item → IsSettled P entries item ⊎ LeavesNothing (ranks_of_problem P) (generators_of P) entries item
+    go : (item : Item) → IsDone P entries item → IsSettled P entries item ⊎ LeavesNothing (ranks_of_problem P) (generators_of P) entries item
     go item (inl e) = inl (inr (inl e))
     go item (inr (inl s)) = inl (inl s)
     go item (inr (inr z)) = inr z

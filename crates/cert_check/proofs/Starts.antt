@@ -138,12 +138,12 @@ module _ (P : Problem) (h : IsProblem P) where
   subtracted_to c g v u below l k = record { at = λ r m. subst (λ p. Same p (u r) (less (ranks_of_problem P) c g v r)) (sym (ranks_p P)) (k r m (omega (arith, l, m))) }
 
   -- 0 less -1 times f, less g, is f less g
-  pub pair_is : (f g h0 h1 h2 : Vector) (c : ℕ) → c ≡ (P.p - 1) % P.p → ((r : ℕ) → h0 r ≡ 0)
-      → Agree (ranks_of_problem P) (ranks_of_problem P).n h1 (less (ranks_of_problem P) c f h0)
-      → Agree (ranks_of_problem P) (ranks_of_problem P).n h2 (less (ranks_of_problem P) 1 g h1)
-      → Agree (ranks_of_problem P) (ranks_of_problem P).n h2 (less (ranks_of_problem P) 1 g f)
-  pair_is f g h0 h1 h2 c e z a b =
-      agree_trans b (less_agree (ranks_of_problem P) (ranks_of_problem P).n 1 1 g h1 f (same_refl _ 1) (agree_trans a (record { at = λ r l. start r })))
+  pub pair_is : (w : ℕ) (f g h0 h1 h2 : Vector) (c : ℕ) → c ≡ (P.p - 1) % P.p → ((r : ℕ) → h0 r ≡ 0)
+      → Agree (ranks_of_problem P) w h1 (less (ranks_of_problem P) c f h0)
+      → Agree (ranks_of_problem P) w h2 (less (ranks_of_problem P) 1 g h1)
+      → Agree (ranks_of_problem P) w h2 (less (ranks_of_problem P) 1 g f)
+  pair_is w f g h0 h1 h2 c e z a b =
+      agree_trans b (less_agree (ranks_of_problem P) w 1 1 g h1 f (same_refl _ 1) (agree_trans a (record { at = λ r l. start r })))
     where
       two : 2 ≤ P.p
       two = (problem_is_admissible P h).prime.two_up
@@ -163,7 +163,7 @@ module _ (P : Problem) (h : IsProblem P) where
           (same_minus_minus (ranks_of_problem P).p (f r) (omega (arith, ranks_p P, positive)))
 
 -- the same difference of equal vectors
-pub pair_same : (P : Problem) {f g f' g' u : Vector} → f ≡ f' → g ≡ g' → Agree (ranks_of_problem P) (ranks_of_problem P).n u (less (ranks_of_problem P) 1 g f) → Agree (ranks_of_problem P) (ranks_of_problem P).n u (less (ranks_of_problem P) 1 g' f')
-pair_same P {f} {g} {f'} {g'} {u} e k a =
-    subst (λ x. Agree (ranks_of_problem P) (ranks_of_problem P).n u (less (ranks_of_problem P) 1 g' x)) e
-    (subst (λ x. Agree (ranks_of_problem P) (ranks_of_problem P).n u (less (ranks_of_problem P) 1 x f)) k a)
+pub pair_same : (P : Problem) (w : ℕ) {f g f' g' u : Vector} → f ≡ f' → g ≡ g' → Agree (ranks_of_problem P) w u (less (ranks_of_problem P) 1 g f) → Agree (ranks_of_problem P) w u (less (ranks_of_problem P) 1 g' f')
+pair_same P w {f} {g} {f'} {g'} {u} e k a =
+    subst (λ x. Agree (ranks_of_problem P) w u (less (ranks_of_problem P) 1 g' x)) e
+    (subst (λ x. Agree (ranks_of_problem P) w u (less (ranks_of_problem P) 1 x f)) k a)

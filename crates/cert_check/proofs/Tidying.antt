@@ -38,7 +38,7 @@ module _ (P : Problem) (h : IsProblem P) where
   -- 0 less -1 times f is f
   pub copied : (f h0 h1 : Vector) (c : ℕ) → c ≡ (P.p - 1) % P.p → ((r : ℕ) → h0 r ≡ 0) → Agree (ranks_of_problem P) (ranks_of_problem P).n h1 (less (ranks_of_problem P) c f h0) → Agree (ranks_of_problem P) (ranks_of_problem P).n h1 f
   copied f h0 h1 c e z a =
-      agree_trans (pair_is P h f nothing h0 h1 h1 c e z a (agree_of (ranks_of_problem P) (ranks_of_problem P).n h1 (less (ranks_of_problem P) 1 nothing h1) (λ r l. gone (h1 r) ((ranks_of_problem P).p - 1))))
+      agree_trans (pair_is P h (ranks_of_problem P).n f nothing h0 h1 h1 c e z a (agree_of (ranks_of_problem P) (ranks_of_problem P).n h1 (less (ranks_of_problem P) 1 nothing h1) (λ r l. gone (h1 r) ((ranks_of_problem P).p - 1))))
       (agree_of (ranks_of_problem P) (ranks_of_problem P).n (less (ranks_of_problem P) 1 nothing f) f (λ r l. sym (gone (f r) ((ranks_of_problem P).p - 1))))
     where
       gone : (x m : ℕ) → x ≡ x + m * 1 * 0

@@ -29,9 +29,13 @@ IsDivided P entries item = IsSkipped P entries item ⊎ LeavesNothing (ranks_of_
 abbrev pub AreDivided : Problem → List Entry → Type 0
 AreDivided P entries = (item : Item) → HasTicket (length P.gens) item → ticket_of (length P.gens) item < total (length P.gens) (length entries) → IsDivided P entries item
 
--- the same but for tickets that have an entry
+-- an entry has the item, or it is divided
+abbrev pub IsDone : Problem → List Entry → Item → Type 0
+IsDone P entries item = HasEntry entries item ⊎ IsDivided P entries item
+
+-- all tickets are divided but for those that have an entry
 abbrev pub OthersAreDivided : Problem → List Entry → Type 0
-OthersAreDivided P entries = (item : Item) → HasTicket (length P.gens) item → ticket_of (length P.gens) item < total (length P.gens) (length entries) → HasEntry entries item ⊎ IsDivided P entries item
+OthersAreDivided P entries = (item : Item) → HasTicket (length P.gens) item → ticket_of (length P.gens) item < total (length P.gens) (length entries) → IsDone P entries item
 
 -- m is the greatest monomial of degree d that is a multiple of no lead
 pub record IsFirstFree (P : Problem) (entries : List Entry) (m : List ℕ) : Type 0 where

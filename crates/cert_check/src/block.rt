@@ -4,6 +4,7 @@ ghost use Rattle.std.specs.Prelude.{◌≡◌, ◌<◌, ◌≤◌, ◌+◌, ◌�
 ghost use Rattle.sparse_poly.specs.Ideal.{IsProblem};
 ghost use Rattle.text_out.specs.declared.answer.Answer.TheVariants.{Fits};
 ghost use Rattle.mora_law.specs.Entries.{corner};
+ghost use Rattle.mora_law.specs.Legal.{Legal};
 ghost use Rattle.local_order.specs.Shape.{count};
 ghost use Rattle.cert_check.specs.Block.{IsRead, IsCornerIn};
 ghost use Rattle.cert_check.specs.Accepted.{IsAcceptedBlock, before};
@@ -147,6 +148,7 @@ fn check_answer(
     requires read { IsRead block.now }
     requires table { HasTable block.now.problem table.now }
     requires passed { IsPassed block.now passed }
+    requires legal { Legal block.now.problem block.now.entries }
     requires few { block_lines block.now < 2 ^ 63 }
     ensures { IfOk result (IsAnswered block.now (tickets ∷ verdict ∷ answer_checks block.now.answer)) }
 {

@@ -81,7 +81,15 @@ pub(crate) fn check_entry(
             reason: Reason::Item,
         }));
     }
-    let mut h = start(alloc, &block.problem, table, &block.entries, entry.item)?;
+    let count = table.count();
+    let mut h = start(
+        alloc,
+        &block.problem,
+        table,
+        &block.entries,
+        entry.item,
+        count,
+    )?;
     if let Some(fault) = check_readings(alloc, block, table, corners, i, line + 1, &mut h)? {
         return Ok(Some(fault));
     }

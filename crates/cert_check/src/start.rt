@@ -1,6 +1,6 @@
 //! Where runs begin.
 
-ghost use Rattle.std.specs.Prelude.{◌≡◌, ◌<◌, length, get_or, [], IfOk};
+ghost use Rattle.std.specs.Prelude.{◌≡◌, ◌<◌, ◌≤◌, length, get_or, [], IfOk};
 ghost use Rattle.sparse_poly.specs.Ideal.{IsProblem};
 ghost use Rattle.rank_algebra.specs.Vector.{Agree};
 ghost use Rattle.rank_algebra.specs.Division.{pair};
@@ -18,19 +18,21 @@ use mono_rank::RankTable;
 use sparse_poly::{Poly, Problem};
 use std::alloc::{AllocError, Global};
 
-/// The generator of an item, or the S-pair of its two entries.
+/// The generator of an item, or the S-pair of its two entries, as far as ranks are below `below`.
 pub(crate) fn start(
     alloc: Global,
     problem: &Problem,
     table: &RankTable,
     entries: &Entries,
     item: Item,
+    below: u32,
 ) -> Result<Sparse, AllocError>
     requires problem { IsProblem problem.now }
     requires table { HasTable problem.now table.now }
     requires stored { AreEntries problem.now entries.now }
     requires item { IsItemOf (length problem.now.gens) (length entries.now) item }
-    ensures value { IfOk result (λ h. Agree (ranks_of_problem problem.now) (ranks_of_problem problem.now).n (at h.terms) (start problem.now entries.now item)) }
+    requires below { below ≤ (ranks_of_problem problem.now).n }
+    ensures value { IfOk result (λ h. Agree (ranks_of_problem problem.now) below (at h.terms) (start problem.now entries.now item)) }
     ensures clean { IfOk result (λ h. IsClean problem.now (at h.terms)) }
 {
     match item {
@@ -41,7 +43,9 @@ pub(crate) fn start(
             problem.gens().get(g as usize),
             g as usize,
         ),
-        Item::Pair(i, j) => pair(alloc, problem, table, entries, i as usize, j as usize),
+        Item::Pair(i, j) => pair(
+            alloc, problem, table, entries, i as usize, j as usize, below,
+        ),
     }
 }
 
@@ -70,7 +74,7 @@ fn generator(
     Ok(h)
 }
 
-/// The S-pair of entries `i` and `j`.
+/// The S-pair of entries `i` and `j`, as far as ranks are below `below`.
 fn pair(
     alloc: Global,
     problem: &Problem,
@@ -78,39 +82,40 @@ fn pair(
     entries: &Entries,
     i: usize,
     j: usize,
+    below: u32,
 ) -> Result<Sparse, AllocError>
     requires problem { IsProblem problem.now }
     requires table { HasTable problem.now table.now }
     requires stored { AreEntries problem.now entries.now }
     requires first { i < length entries.now }
     requires second { j < length entries.now }
-    ensures value { IfOk result (λ h. Agree (ranks_of_problem problem.now) (ranks_of_problem problem.now).n (at h.terms) (pair (ranks_of_problem problem.now) (basis_of entries.now) i j)) }
+    requires below { below ≤ (ranks_of_problem problem.now).n }
+    ensures value { IfOk result (λ h. Agree (ranks_of_problem problem.now) below (at h.terms) (pair (ranks_of_problem problem.now) (basis_of entries.now) i j)) }
     ensures clean { IfOk result (λ h. IsClean problem.now (at h.terms)) }
 {
     let field = problem.field();
-    let count = table.count();
     let first = lead_of(problem, entries, i);
     let second = lead_of(problem, entries, j);
-    let above = cofactor_rank(problem, table, first, second);
-    let below = cofactor_rank(problem, table, second, first);
+    let by_first = cofactor_rank(problem, table, first, second);
+    let by_second = cofactor_rank(problem, table, second, first);
     let mut h = Sparse::new(alloc);
     subtract(
         problem,
         table,
         &mut h,
         field.neg(1),
-        above,
+        by_first,
         &entries.get(i).terms,
-        count,
+        below,
     )?;
     subtract(
         problem,
         table,
         &mut h,
         1,
-        below,
+        by_second,
         &entries.get(j).terms,
-        count,
+        below,
     )?;
     Ok(h)
 }

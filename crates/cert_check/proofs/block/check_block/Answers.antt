@@ -9,8 +9,13 @@ use Rattle.cert_check.specs.Fault.{IsFirstFaultIn}
 use Rattle.cert_check.specs.Answers.{IsAnswered, IsPassed}
 use Rattle.cert_check.proofs.Answered.{answered_behind}
 use Rattle.cert_check.proofs.Faults.{fault_left}
-use Rattle.cert_check.proofs.Passed.{accepted_by, right_by}
+use Rattle.cert_check.proofs.Passed.{legal_by, accepted_by, right_by}
 use Rattle.cert_check.proofs.block.check_block.Goals as goal
+
+pub check_answer-requires-clause-legal : goal.check_answer-requires-clause-legal
+check_answer-requires-clause-legal c =
+    let h = subst (λ r. MatchResult r (λ x. All (Holds c.args.block.now) (entries_checks 0 c.args.block.now.entries) × IsPassed c.args.block.now x) (λ (f : Fault). IsFirstFaultIn c.args.block.now (entries_checks 0 c.args.block.now.entries) f.line f.reason)) c.in-Ok-2.is c.in_ok-passed.ensures in
+    legal_by c.args.block.now c.requires.read h.0
 
 pub returns-in-Ok-2-clause-fault : goal.returns-in-Ok-2-clause-fault
 returns-in-Ok-2-clause-fault c =

@@ -9,6 +9,7 @@ use Rattle.cert_check.specs.Sparse.{at}
 use Rattle.cert_check.specs.Answers.{IsAnswered}
 use Rattle.cert_check.proofs.Stored.{stored_entry, entry_is, reads_are, item_is, same_item}
 use Rattle.cert_check.proofs.MonicTerms.{monic_alike}
+use Rattle.cert_check.proofs.Tables.{all_ranks}
 use Rattle.cert_check.proofs.Replaying.{item_fault, readings_fault, terms_fault, entry_holds}
 use Rattle.cert_check.proofs.entry.check_entry.Goals as goal
 
@@ -17,10 +18,14 @@ returns-then-not-is_item_of c =
     let ei = item_is c.args.block.now.entries c.args.i (entry_of c.get-entry.result.now) c.get-entry.ensures in
     item_fault c.args.block.now c.args.i c.args.line (λ k. let z : false ≡ true = c.if-not-is_item_of.ensures.1 (same_item c.args.i _ _ _ _ (sym c.generator_count.ensures) ei k) in cc z) c.requires.line
 
+pub start-requires-clause-below : goal.start-requires-clause-below
+start-requires-clause-below c = omega (arith, c.count-count.ensures.value, all_ranks c.args.block.now.problem _ c.requires.table)
+
 pub check_readings-requires-clause-start : goal.check_readings-requires-clause-start
 check_readings-requires-clause-start c =
     let ei = item_is c.args.block.now.entries c.args.i (entry_of c.get-entry.result.now) c.get-entry.ensures in
-    subst (λ x. Agree (ranks_of_problem c.args.block.now.problem) (ranks_of_problem c.args.block.now.problem).n (at c.in_ok-h.h.terms) (start c.args.block.now.problem c.args.block.now.entries x)) (sym ei) c.in_ok-h.ensures.value
+    subst (λ x. Agree (ranks_of_problem c.args.block.now.problem) (ranks_of_problem c.args.block.now.problem).n (at c.in_ok-h.h.terms) (start c.args.block.now.problem c.args.block.now.entries x)) (sym ei)
+    (subst (λ w. Agree (ranks_of_problem c.args.block.now.problem) w (at c.in_ok-h.h.terms) (start c.args.block.now.problem c.args.block.now.entries c.get-entry.result.now.item)) (c.count-count.ensures.value ∙ sym (all_ranks c.args.block.now.problem _ c.requires.table)) c.in_ok-h.ensures.value)
 
 pub returns-in-Some : goal.returns-in-Some
 returns-in-Some c =

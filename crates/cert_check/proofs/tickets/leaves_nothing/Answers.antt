@@ -12,3 +12,6 @@ returns c =
     let z = leaves_is c.args.problem.now (problem_is_admissible _ c.requires.problem) c.args.entries.now c.args.item (at c.in_ok-h.h.terms) (at c.divide.new.h.terms) c.args.lowest c.requires.corner
     c.in_ok-h.ensures.value c.in_ok-divide.ensures.value c.in_ok-divide.ensures.clean in
     ((λ y. z.0 (c.is_zero.ensures.0 y)), (λ n. c.is_zero.ensures.1 (z.1 n)))
+
+pub start-requires-clause-below : goal.start-requires-clause-below
+start-requires-clause-below c = let z = corner_within c.args.problem.now (problem_is_admissible _ c.requires.problem) c.args.entries.now in omega (arith, z, c.requires.corner)

@@ -1,9 +1,0 @@
-use Rattle.std.proofs.Common.{◌≡◌, ◌<◌, ℕ, List, length, get_or, subst, sym, arith}
-use Rattle.mono_rank.specs.Rank.{mono_at}
-use Rattle.mora_law.proofs.Ring.{problem_is_admissible}
-use Rattle.cert_check.proofs.Leaves.{leads_long}
-use Rattle.cert_check.proofs.tickets.pair_divided.Goals as goal
-
-pub skip-requires-clause-variables : goal.skip-requires-clause-variables
-skip-requires-clause-variables c = subst (λ (ms : List (List ℕ)). (k : ℕ) (d : List ℕ) → k < length ms → length (get_or ms k d) ≡ length (mono_at ms c.args.i)) (sym c.requires.leads)
-    (leads_long c.args.problem.now (problem_is_admissible _ c.requires.problem) c.args.entries.now c.requires.stored c.args.i (omega (arith, c.requires.first, c.requires.second)))
