@@ -1,6 +1,6 @@
 //! What the checker answers of certificates and of changes of them.
 
-use crate::texts::{INTERMEDIATE, JACOBIAN, OTHER_WORKER};
+use crate::texts::{INTERMEDIATE, JACOBIAN, OTHER_WORKER, TOO_SMALL, TWO_BLOCKS};
 use cert_check::{Reason, Verdict, check};
 use std::alloc::Global;
 use std::test::Fail;
@@ -13,7 +13,7 @@ struct Row {
     reason: Reason,
 }
 
-const ROWS: [Row; 31] = [
+const ROWS: [Row; 60] = [
     Row {
         text: JACOBIAN,
         changes: &[("entry 0 gen 0\n", "entry 0 gen 2\n")],
@@ -212,6 +212,183 @@ const ROWS: [Row; 31] = [
         line: 26,
         reason: Reason::HighCorner,
     },
+    Row {
+        text: JACOBIAN,
+        changes: &[("block 1\n", "block 2\n")],
+        line: 2,
+        reason: Reason::Form,
+    },
+    Row {
+        text: JACOBIAN,
+        changes: &[("p 32003\n", "p 7\n")],
+        line: 7,
+        reason: Reason::Form,
+    },
+    Row {
+        text: JACOBIAN,
+        changes: &[("D 6\n", "D 5\n")],
+        line: 21,
+        reason: Reason::Form,
+    },
+    Row {
+        text: JACOBIAN,
+        changes: &[("D 6\n", "D 7\n")],
+        line: 11,
+        reason: Reason::Corner,
+    },
+    Row {
+        text: JACOBIAN,
+        changes: &[("2*x*y^2+5*x^4\n", "3*x*y^2+5*x^4\n")],
+        line: 12,
+        reason: Reason::Poly,
+    },
+    Row {
+        text: JACOBIAN,
+        changes: &[("2*x^2*y+5*y^4\n", "2*x^3*y+5*y^4\n")],
+        line: 15,
+        reason: Reason::Poly,
+    },
+    Row {
+        text: JACOBIAN,
+        changes: &[("entry 1 gen 1\n", "entry 1 gen 0\n")],
+        line: 14,
+        reason: Reason::Run,
+    },
+    Row {
+        text: JACOBIAN,
+        changes: &[("read 1 28\n", "read 0 28\n")],
+        line: 14,
+        reason: Reason::Known,
+    },
+    Row {
+        text: JACOBIAN,
+        changes: &[("entry 2 pair 0 1\n", "entry 2 pair 1 1\n")],
+        line: 16,
+        reason: Reason::Item,
+    },
+    Row {
+        text: JACOBIAN,
+        changes: &[("read 2 28\n", "read 3 28\n")],
+        line: 17,
+        reason: Reason::Known,
+    },
+    Row {
+        text: JACOBIAN,
+        changes: &[("poly x^5-y^5\n", "poly x^5-y^6\n")],
+        line: 18,
+        reason: Reason::Poly,
+    },
+    Row {
+        text: JACOBIAN,
+        changes: &[("basis 4\nx^2*y-15999*y^4\n", "basis 4\nx^2*y-15998*y^4\n")],
+        line: 24,
+        reason: Reason::Basis,
+    },
+    Row {
+        text: JACOBIAN,
+        changes: &[("x^5-y^5\ny^6\n", "x^5-y^5\ny^5\n")],
+        line: 27,
+        reason: Reason::Basis,
+    },
+    Row {
+        text: JACOBIAN,
+        changes: &[("corner y^5\n", "corner y^4\n")],
+        line: 28,
+        reason: Reason::HighCorner,
+    },
+    Row {
+        text: JACOBIAN,
+        changes: &[("y^4 y^5\n", "y^4 y^6\n")],
+        line: 29,
+        reason: Reason::Stair,
+    },
+    Row {
+        text: JACOBIAN,
+        changes: &[("end 1\n", "end 2\n")],
+        line: 30,
+        reason: Reason::Form,
+    },
+    Row {
+        text: INTERMEDIATE,
+        changes: &[("y^3\nx\nentries 2\n", "y^3\nx^2\nentries 2\n")],
+        line: 16,
+        reason: Reason::Run,
+    },
+    Row {
+        text: INTERMEDIATE,
+        changes: &[("entry 1 gen 1\nread 1 15\n", "entry 1 gen 1\nread 0 15\n")],
+        line: 14,
+        reason: Reason::Run,
+    },
+    Row {
+        text: INTERMEDIATE,
+        changes: &[(
+            "gen 1\nread 1 15\nread 1 15\n",
+            "gen 1\nread 1 15\nread 1 14\n",
+        )],
+        line: 15,
+        reason: Reason::Corner,
+    },
+    Row {
+        text: INTERMEDIATE,
+        changes: &[("read 1 15\npoly y^3\n", "read 0 15\npoly y^3\n")],
+        line: 16,
+        reason: Reason::Known,
+    },
+    Row {
+        text: OTHER_WORKER,
+        changes: &[("entry 2 gen 2\n", "entry 2 gen 1\n")],
+        line: 18,
+        reason: Reason::Run,
+    },
+    Row {
+        text: OTHER_WORKER,
+        changes: &[("read 1 5\n", "read 0 5\n")],
+        line: 18,
+        reason: Reason::Run,
+    },
+    Row {
+        text: OTHER_WORKER,
+        changes: &[("read 2 5\n", "read 2 4\n")],
+        line: 19,
+        reason: Reason::Corner,
+    },
+    Row {
+        text: OTHER_WORKER,
+        changes: &[("read 2 5\n", "read 1 5\n")],
+        line: 19,
+        reason: Reason::Known,
+    },
+    Row {
+        text: TOO_SMALL,
+        changes: &[("x^3\nentries 1\n", "x\nentries 1\n")],
+        line: 13,
+        reason: Reason::Unsettled,
+    },
+    Row {
+        text: TOO_SMALL,
+        changes: &[("too small x*y^2\n", "too small y^3\n")],
+        line: 13,
+        reason: Reason::Verdict,
+    },
+    Row {
+        text: TWO_BLOCKS,
+        changes: &[("block 2\n", "block 3\n")],
+        line: 15,
+        reason: Reason::Form,
+    },
+    Row {
+        text: TWO_BLOCKS,
+        changes: &[("read 2 5\n", "read 2 4\n")],
+        line: 32,
+        reason: Reason::Corner,
+    },
+    Row {
+        text: TWO_BLOCKS,
+        changes: &[("done 2\n", "done 1\n")],
+        line: 42,
+        reason: Reason::Form,
+    },
 ];
 
 /// The text with what takes the place of its lines.
@@ -236,16 +413,31 @@ fn is_rejected(alloc: Global, row: &Row) -> Result<bool, Fail> {
     )
 }
 
-/// Whether a text is accepted.
-fn is_accepted(alloc: Global, text: &str) -> Result<bool, Fail> {
+/// Whether a text of so many blocks is accepted.
+fn is_accepted(alloc: Global, text: &str, blocks: u32) -> Result<bool, Fail> {
     let verdict = check(alloc, text.as_bytes())?;
-    Ok(verdict == Verdict::Accepted { blocks: 1 })
+    Ok(verdict == Verdict::Accepted { blocks })
 }
 
 #[test]
 fn certificates_are_accepted(rt: HostRuntime) -> Result<(), Fail> {
-    for text in [JACOBIAN, INTERMEDIATE, OTHER_WORKER] {
-        assert!(rt; is_accepted(rt.alloc(), text)?);
+    for text in [JACOBIAN, INTERMEDIATE, OTHER_WORKER, TOO_SMALL] {
+        assert!(rt; is_accepted(rt.alloc(), text, 1)?);
+    }
+    assert!(rt; is_accepted(rt.alloc(), TWO_BLOCKS, 2)?);
+    Ok(())
+}
+
+#[test]
+fn changes_that_nothing_hangs_on_are_accepted(rt: HostRuntime) -> Result<(), Fail> {
+    for change in [
+        ("p 32003\n", "p 2\n"),
+        ("x^2+x*y+x^3\n", "x^2+2*x*y+x^3\n"),
+        ("read 1 5\n", "read 2 5\n"),
+        ("read 1 5\n", "read 1 7\n"),
+    ] {
+        let text = changed(rt.alloc(), OTHER_WORKER, &[change])?;
+        assert!(rt; is_accepted(rt.alloc(), text.as_str(), 1)?);
     }
     Ok(())
 }

@@ -1,4 +1,4 @@
-//! Three certificates that are accepted.
+//! Certificates that are accepted.
 
 /// The partial derivatives of x^5+x^2*y^2+y^5, modulo degree 7.
 pub(crate) const JACOBIAN: &str =
@@ -11,3 +11,11 @@ pub(crate) const INTERMEDIATE: &str =
 /// x^2, y^2 and x^2+x*y+x^3: a reading has a corner that the entries it knew do not justify alone.
 pub(crate) const OTHER_WORKER: &str =
     "lstd-cert 1\nblock 1\np 32003\nvars x y\nD 4\ngens 3\nx^2\ny^2\nx^2+x*y+x^3\nentries 3\nentry 0 gen 0\nread 0 15\npoly x^2\nentry 1 gen 1\nread 1 15\npoly y^2\nentry 2 gen 2\nread 1 5\nread 2 5\npoly x*y\nfits\nbasis 3\nx^2\nx*y\ny^2\ncorner y\nstair 3 1 x y\nend 1\ndone 1\n";
+
+/// x^2 and x^3 modulo degree 4: no power of y is a lead, so the degree is too small.
+pub(crate) const TOO_SMALL: &str =
+    "lstd-cert 1\nblock 1\np 32003\nvars x y\nD 3\ngens 2\nx^2\nx^3\nentries 1\nentry 0 gen 0\nread 0 10\npoly x^2\ntoo small x*y^2\nend 1\ndone 1\n";
+
+/// The last two, one after the other.
+pub(crate) const TWO_BLOCKS: &str =
+    "lstd-cert 1\nblock 1\np 32003\nvars x y\nD 3\ngens 2\nx^2\nx^3\nentries 1\nentry 0 gen 0\nread 0 10\npoly x^2\ntoo small x*y^2\nend 1\nblock 2\np 32003\nvars x y\nD 4\ngens 3\nx^2\ny^2\nx^2+x*y+x^3\nentries 3\nentry 0 gen 0\nread 0 15\npoly x^2\nentry 1 gen 1\nread 1 15\npoly y^2\nentry 2 gen 2\nread 1 5\nread 2 5\npoly x*y\nfits\nbasis 3\nx^2\nx*y\ny^2\ncorner y\nstair 3 1 x y\nend 2\ndone 2\n";
