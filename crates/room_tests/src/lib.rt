@@ -17,6 +17,8 @@ mod numbers;
 #[cfg(test)]
 mod polynomials;
 #[cfg(test)]
+mod printed;
+#[cfg(test)]
 mod ranks;
 #[cfg(test)]
 mod rows;

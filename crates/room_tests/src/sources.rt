@@ -3,7 +3,9 @@ ghost use Rattle.std.specs.Prelude.{◌≤◌};
 
 use io_edge::*;
 use std::alloc::Global;
+use std::fs;
 use std::io::{self, Read, Write};
+use std::rt::Files;
 use std::test::Fail;
 
 /// A reader that gives one byte a call, and fails at the call with this number.
@@ -140,5 +142,32 @@ fn a_writer_of_std_is_a_sink(rt: HostRuntime) -> Result<(), Fail> {
         write_all_counted(&mut full, b""),
     ];
     assert!(rt; answers == [Ok(()), Err(Failed), Ok(())]);
+    Ok(())
+}
+
+/// What it answers to write a text to the file at this path, in two pieces.
+fn write_file<R: Files + AllocGlobal + Clone + Drop>(
+    rt: &R,
+    path: &str,
+) -> Result<Result<(), Failed>, Fail> {
+    let path = String::from_str(rt.alloc(), path)?;
+    let mut sink = FileSink::new(rt.clone()?, path);
+    if write_all_counted(&mut sink, b"1 std").is_err() {
+        return Ok(Err(Failed));
+    }
+    Ok(write_all_counted(&mut sink, b" i\n"))
+}
+
+#[test]
+fn a_file_is_a_sink(rt: HostRuntime) -> Result<(), Fail> {
+    // a file, one in a folder that isn't there, and a device that is full
+    let answers = [
+        write_file(&rt, "answer")?,
+        write_file(&rt, "missing/answer")?,
+        write_file(&rt, "/dev/full")?,
+    ];
+    assert!(rt; answers == [Ok(()), Err(Failed), Err(Failed)]);
+    let text = fs::read_to_string(&rt, "answer")?;
+    assert!(rt; text.as_str() == "1 std i\n");
     Ok(())
 }
