@@ -1,0 +1,107 @@
+-- What each step of the board tells its caller. Ours.
+use Rattle.std.specs.Prelude.{◌≡◌, ◌≢◌, ℕ, ◌<◌, ◌≤◌, List, [], ◌∷◌, ◌++◌, length, sum_by, None, true, min, nat_le, if◌then◌else◌, ⊤}
+use Rattle.atomic_table.specs.Table as table
+use Rattle.entry_code.specs.declared.reading.Reading.{Reading}
+use Rattle.entry_code.specs.declared.entry.Entry.{Entry as StoredEntry}
+use Rattle.mora_law.specs.Tickets.{total}
+use Rattle.run_core.specs.Hand.{reads_of, read}
+use Rattle.run_core.specs.State.{Seat, times, steps_of}
+use Rattle.run_core.specs.Effects.{won, later, kept, given, joined, nobody}
+use Rattle.run_core.specs.Idle.{SettlesAll}
+use Rattle.reducer_list.specs.View.{View, top, Begins}
+
+-- a seat's view, and the slots that it has, which are none
+abbrev pub Me : Type 0
+Me = table.Me StoredEntry View
+
+-- the view with another seat of the machine
+abbrev pub with_seat : View → Seat → View
+with_seat v u = record v { seat = u }
+
+-- a claim: the ticket is won where the word is what the seat has seen, and else the seat has seen the word
+abbrev pub Claimed : table.Step StoredEntry → Me → ℕ → Me → Type 0
+Claimed st m found m' =
+    (m'.1 ≡ m.1)
+    × (found ≡ st.first → (m'.0 ≡ with_seat m.0 (won m.0.seat)) × (m'.0.seat.claims ≤ total (length m.0.setting.problem.gens) (top m.0.setting)))
+    × (found ≢ st.first → (m'.0 ≡ with_seat m.0 (later found m.0.seat)) × (m.0.seat.seen < found))
+
+-- the hand has one more reading, of this corner
+abbrev pub cornered : ℕ → View → View
+cornered c v = with_seat v (record v.seat { hand = read v.setting.problem v.list (record { known = v.seat.known; corner = c }) v.seat.hand })
+
+-- a corner is at most that of each reading
+abbrev pub AreAbove : ℕ → List Reading → Type 0
+AreAbove c [] = ⊤
+AreAbove c (d ∷ ds) = (c ≤ d.corner) × AreAbove c ds
+
+-- a corner: the lesser of the word and the own corner joins the hand
+abbrev pub Cornered : table.Step StoredEntry → Me → ℕ → Me → Type 0
+Cornered st m found m' = (m'.1 ≡ m.1) × (m'.0 ≡ cornered (min found st.first) m.0) × AreAbove (min found st.first) (reads_of m.0.seat.hand)
+
+-- without the last
+abbrev pub all_but_last : List ℕ → List ℕ
+all_but_last [] = []
+all_but_last (x ∷ []) = []
+all_but_last (x ∷ y ∷ ys) = x ∷ all_but_last (y ∷ ys)
+
+-- the last alone
+abbrev pub last_only : List ℕ → List ℕ
+last_only [] = []
+last_only (x ∷ []) = x ∷ []
+last_only (x ∷ y ∷ ys) = last_only (y ∷ ys)
+
+-- the half that stays: the last chunk goes with the greatest number
+abbrev pub left_half : View → View
+left_half v = record v { seat = kept v.seat; chunks = all_but_last v.chunks }
+
+-- the new seat's view
+abbrev pub right_half : View → View
+right_half v = record {
+  setting = v.setting;
+  list = v.list;
+  seat = given v.seat;
+  chunks = last_only v.chunks;
+  draft = [];
+  taken = None;
+  reading = None;
+  looks = 0;
+  joined = [];
+}
+
+-- two views in one: the list is the longer of the two
+abbrev pub both : View → View → View
+both v w = record {
+  setting = v.setting;
+  list = if nat_le w.seat.known v.seat.known then v.list else w.list;
+  seat = joined v.seat w.seat;
+  chunks = v.chunks ++ w.chunks;
+  draft = v.draft;
+  taken = if nat_le w.seat.known v.seat.known then v.taken else None;
+  reading = None;
+  looks = v.looks;
+  joined = if nat_le w.seat.known v.seat.known then w.list else v.list;
+}
+
+-- what is left of a view that was joined away
+abbrev pub spent_view : View
+spent_view = record {
+  setting = record { problem = record { p = 0; n = 0; d = 0; gens = [] }; workers = 0 };
+  list = [];
+  seat = nobody;
+  chunks = [];
+  draft = [];
+  taken = None;
+  reading = None;
+  looks = 0;
+  joined = [];
+}
+
+-- a seat that has all numbers and the idle mark: its counts are those of all, and its list settles every ticket
+abbrev pub LastIdle : View → Type 0
+LastIdle v =
+    ((w : ℕ) → w < v.setting.workers → 0 < times w v.seat.numbers) → v.seat.idle ≡ true
+    → (v.seat.claims ≡ total (length v.setting.problem.gens) v.seat.known) × (v.seat.published ≡ sum_by steps_of v.list) × SettlesAll v.setting.problem v.list
+
+-- a load that changes nothing, and shows what the rule says of the seat
+abbrev pub Settled : table.Step StoredEntry → Me → ℕ → Me → Type 0
+Settled st m found m' = (m'.1 ≡ m.1) × (m'.0 ≡ m.0) × LastIdle m.0 × (length m.0.seat.numbers ≤ m.0.setting.workers) × Begins m.0.joined m.0.list

@@ -1,0 +1,14 @@
+//! The board that workers share: one list of entries that only grows, a ticket number and the corner word, as words of one table, with no
+//! lock and no waiting.
+#![tactic(auto)]
+
+mod answers;
+mod board;
+mod open;
+mod rule;
+mod seat;
+mod seats;
+
+pub use answers::Claim;
+pub use board::SharedBoard;
+pub use seat::BoardSeat;
