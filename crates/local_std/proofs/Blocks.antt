@@ -3,13 +3,14 @@ use Rattle.std.proofs.Common.{◌≡◌, ℕ, ◌+◌, ◌≤◌, List, [], ◌�
 use Rattle.std.specs.Prelude.{slice_get, Contains}
 use Rattle.std.specs.Bool.{OnTrue, OnFalse}
 use Rattle.std.proofs.lemmas.List.{append-nil, take_all}
-use Rattle.std.proofs.lemmas.List.Elements.{All-more, Contains-append_left, Contains-push}
+use Rattle.std.proofs.lemmas.List.Elements.{All-nil, All-more, Contains-append_left, Contains-push}
 use Rattle.std.proofs.lemmas.Option.{slice_get_within, get_or_from_slice_get}
 use Rattle.sparse_poly.specs.Ideal.{Fits}
 use Rattle.script_grammar.specs.declared.script.Command.{Command}
 use Rattle.script_grammar.specs.declared.script.Script.{Script}
 use Rattle.local_std.proofs.Prefixes.{first_and_next}
 use Rattle.local_std.specs.Answer.{problem_of, IsBlock, AreBlocks, AllFit, SomeIsSmall}
+use Rattle.local_std.specs.Answered.{AreDone, AreAnswered}
 
 -- the degree fits for a command
 abbrev pub IsFitting : Script → Command → Type 0
@@ -18,12 +19,6 @@ IsFitting s c = Fits (problem_of s c)
 -- it is too small for it
 abbrev pub IsSmall : Script → Command → Type 0
 IsSmall s c = Fits (problem_of s c) → ⊥
-
--- the text has the blocks of these commands, and the flag says whether the degree fits for each
-pub record AreDone (s : Script) (cs : List Command) (text : List ℕ) (fits : Bool) : Type 0 where
-  pub blocks : AreBlocks s 1 cs text
-  pub fit : OnTrue fits (AllFit s cs)
-  pub small : OnFalse fits (SomeIsSmall s cs)
 
 -- one block more
 blocks_push : (s : Script) (i : ℕ) (cs : List Command) (c : Command) (text block : List ℕ) → AreBlocks s i cs text → IsBlock s (i + length cs) c block → AreBlocks s i (cs ++ c ∷ []) (text ++ block)
@@ -62,11 +57,28 @@ module _ (s : Script) (cs : List Command) (k : ℕ) (c : Command) (at : slice_ge
   small_here small = (c, subst (λ l. Contains l c) (sym (first_and_next cs k c at)) (Contains-push (take k cs) c), small)
 
   -- one command more
-  pub one_more : (fits here : Bool) → AreDone s (take k cs) text fits → OnTrue here (IsFitting s c) → OnFalse here (IsSmall s c) → AreDone s (take (k + 1) cs) (text ++ block) (fits && here)
+  one_more : (fits here : Bool) → AreDone s (take k cs) text fits → OnTrue here (IsFitting s c) → OnFalse here (IsSmall s c) → AreDone s (take (k + 1) cs) (text ++ block) (fits && here)
   one_more true true done fit small = record { blocks = blocks_next done.blocks; fit = fit_next done.fit fit; small = tt }
   one_more true false done fit small = record { blocks = blocks_next done.blocks; fit = tt; small = small_here small }
   one_more false here done fit small = record { blocks = blocks_next done.blocks; fit = tt; small = small_before done.small }
 
--- all commands are done
+-- Before the first command nothing is done, and the front alone stands there.
+pub none_answered : (s : Script) (front : List ℕ) → AreAnswered s front 0 true front
+none_answered s front = record {
+  blocks = [];
+  done = record { blocks = refl; fit = All-nil (IsFitting s); small = tt };
+  spelled = sym (append-nil front);
+}
+
+-- One command more is answered.
+pub answered_more : (s : Script) (front : List ℕ) (k : ℕ) (c : Command) → slice_get s.commands k ≡ Some c → (text more block : List ℕ) → IsBlock s (k + 1) c block → more ≡ text ++ block →
+    (fits here : Bool) → OnTrue here (IsFitting s c) → OnFalse here (IsSmall s c) → AreAnswered s front k fits text → AreAnswered s front (k + 1) (fits && here) more
+answered_more s front k c at text more block is spelled fits here fit small a = record {
+  blocks = a.blocks ++ block;
+  done = one_more s s.commands k c at a.blocks block is fits here a.done fit small;
+  spelled = spelled ∙ ap (λ (l : List ℕ). l ++ block) a.spelled ∙ append_assoc front a.blocks block;
+}
+
+-- All commands are done.
 pub all_done : (s : Script) (cs : List Command) (k : ℕ) (text : List ℕ) (fits : Bool) → length cs ≤ k → AreDone s (take k cs) text fits → AreDone s cs text fits
 all_done s cs k text fits past done = subst (λ l. AreDone s l text fits) (take_all k cs past) done

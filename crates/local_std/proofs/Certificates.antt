@@ -1,10 +1,9 @@
--- The certificate of a script: what is certified of each command's problem, which was solved, stands at the command's place.
--- The lines of blocks one after another, with the last line, are those of the certificate.
-use Rattle.std.proofs.Common.{◌≡◌, ℕ, zero, suc, ◌+◌, ◌<◌, ◌≤◌, List, [], ◌∷◌, ◌++◌, length, map, get_or, Option, Some, codes, refl, sym, ◌∙◌, ap, subst, arith, append_assoc}
-use Rattle.std.specs.Prelude.{All, slice_get, option_map}
-use Rattle.std.specs.List.{AllByRecursion, AllZip, cons_option}
-use Rattle.std.proofs.lemmas.Option.{slice_get_within, get_or_from_slice_get}
-use Rattle.std.proofs.lemmas.List.{append-nil, length-map}
+-- What is certified of a command: its problem was solved, and stands in the script's letters.
+-- The lines of blocks one after another, with the last line, are those of the certificate behind its first line.
+use Rattle.std.proofs.Common.{◌≡◌, ℕ, suc, ◌+◌, List, [], ◌∷◌, ◌++◌, length, map, Some, codes, refl, sym, ◌∙◌, ap, arith, append_assoc}
+use Rattle.std.specs.Prelude.{slice_get}
+use Rattle.std.specs.List.{AllByRecursion, AllZip}
+use Rattle.std.proofs.lemmas.List.{append-nil, map-append, length-map}
 use Rattle.script_grammar.specs.declared.script.Subject.{Subject}
 use Rattle.script_grammar.specs.declared.script.Subject.TheVariants.{Ideal, Function}
 use Rattle.script_grammar.specs.declared.script.Word.{Word}
@@ -12,51 +11,42 @@ use Rattle.script_grammar.specs.declared.script.Word.TheVariants.{Std, Vdim, Kba
 use Rattle.script_grammar.specs.declared.script.Command.{Command}
 use Rattle.script_grammar.specs.declared.script.Script.{Script}
 use Rattle.script_grammar.specs.Statements.{is_on_poly}
-use Rattle.script_grammar.specs.Limits.{max_commands}
 use Rattle.ring_reader.specs.Coherent.{IsSubject, IsCoherent, BelongsTo}
 use Rattle.sparse_poly.specs.Ideal.{Problem}
 use Rattle.cert_grammar.specs.Lines.{line_text, text}
 use Rattle.cert_grammar.specs.Blocks.{Block}
 use Rattle.cert_grammar.specs.Cert.{head_line, numbered, in_turn, block_lines, blocks_lines}
+use Rattle.cert_grammar.specs.declared.certified.Certified.{Certified}
 use Rattle.cert_grammar.specs.Certified.{IsCertified, block_of, certificate_text}
 use Rattle.cert_grammar.proofs.Refusals.{text-append}
-use Rattle.local_std.specs.Answer.{problem_in, problem_of, Certifies, IsCertificate}
+use Rattle.local_std.specs.Answer.{problem_in, problem_of, Certifies}
 use Rattle.local_std.specs.declared.solved.Solved.{Solved}
-use Rattle.local_std.specs.Solved.{problem_asked, IsSolved, IsPlaceOf, claim_of, claims_at}
-use Rattle.local_std.specs.Claims.{IsClaimable, numbered_block}
+use Rattle.local_std.specs.Solved.{problem_asked, IsSolved, claim_of}
+use Rattle.local_std.specs.Claims.{numbered_block}
 use Rattle.local_std.proofs.Certified.{certified, ring_variables}
 use Rattle.local_std.proofs.Accepted.{accepted}
 
--- ---- places
--- What stands at a place stands there where more was put behind.
-get_more : {A : Type 0} (xs ys : List A) (i : ℕ) (x : A) → slice_get xs i ≡ Some x → slice_get (xs ++ ys) i ≡ Some x
-get_more [] ys i x e = absurd (cc (e))
-get_more (y ∷ xs) ys zero x e = e
-get_more (y ∷ xs) ys (suc i) x e = get_more xs ys i x e
-
+-- ---- lists
 -- What was put last stands at the last place.
 pub get_last : {A : Type 0} (xs : List A) (x : A) → slice_get (xs ++ x ∷ []) (length xs) ≡ Some x
 get_last [] x = refl
 get_last (y ∷ xs) x = get_last xs x
 
--- Places stay those of the commands' problems where more problems were solved.
-pub places_kept : (s : Script) (solved more : List Solved) (cs : List Command) (places : List ℕ) → AllZip (λ c place. IsPlaceOf (problem_of s c) solved place) cs places →
-    AllZip (λ c place. IsPlaceOf (problem_of s c) (solved ++ more) place) cs places
-places_kept s solved more [] [] h = tt
-places_kept s solved more [] (p ∷ ps) h = absurd h
-places_kept s solved more (c ∷ cs) [] h = absurd h
-places_kept s solved more (c ∷ cs) (p ∷ ps) h = ((h.0.0, get_more solved more p h.0.0 h.0.1, h.0.2), places_kept s solved more cs ps h.1)
+-- Lists whose members belong to each other one by one do so behind others that do.
+pub zip_append : {A B : Type 0} (R : A → B → Type 0) (xs us : List A) (ys vs : List B) → AllZip R xs ys → AllZip R us vs → AllZip R (xs ++ us) (ys ++ vs)
+zip_append R [] us [] vs h k = k
+zip_append R [] us (b ∷ ys) vs h k = absurd h
+zip_append R (a ∷ xs) us [] vs h k = absurd h
+zip_append R (a ∷ xs) us (b ∷ ys) vs h k = (h.0, zip_append R xs us ys vs h.1 k)
 
--- One more command has a place.
-pub places_push : {A B : Type 0} (R : A → B → Type 0) (xs : List A) (ys : List B) (x : A) (y : B) → AllZip R xs ys → R x y → AllZip R (xs ++ x ∷ []) (ys ++ y ∷ [])
-places_push R [] [] x y h k = (k, tt)
-places_push R [] (b ∷ ys) x y h k = absurd h
-places_push R (a ∷ xs) [] x y h k = absurd h
-places_push R (a ∷ xs) (b ∷ ys) x y h k = (h.0, places_push R xs ys x y h.1 k)
+-- What holds of all members of two lists holds of those of both together.
+pub all_append : {A : Type 0} (Q : A → Type 0) (xs ys : List A) → AllByRecursion Q xs → AllByRecursion Q ys → AllByRecursion Q (xs ++ ys)
+all_append Q [] ys h k = k
+all_append Q (x ∷ xs) ys h k = (h.0, all_append Q xs ys h.1 k)
 
 -- ---- a command
 -- The problem of a command is in the script's variables.
-in_script : (s : Script) (p d : ℕ) (w : Word) (x : Subject) → IsSubject p (length s.names) d (is_on_poly w) x → (problem_in s w x).n ≡ length s.names
+pub in_script : (s : Script) (p d : ℕ) (w : Word) (x : Subject) → IsSubject p (length s.names) d (is_on_poly w) x → (problem_in s w x).n ≡ length s.names
 in_script s p d w (Ideal P) h = h.2
 in_script s p d Std (Function f) h = refl
 in_script s p d Vdim (Function f) h = refl
@@ -65,86 +55,73 @@ in_script s p d HighCorner (Function f) h = refl
 in_script s p d Milnor (Function f) h = refl
 in_script s p d Tjurina (Function f) h = refl
 
-module _ (s : Script) (coherent : IsCoherent s) where
-  -- What was solved for a command is certified in the script's letters.
-  certified_for : (c : Command) → BelongsTo s c → (one : Solved) → IsSolved one → problem_asked one.question ≡ problem_of s c → IsCertified (claim_of s.names one)
-  certified_for c belongs one solved is =
+module _ (s : Script) (coherent : IsCoherent s) (c : Command) (belongs : BelongsTo s c) (one : Solved) (solved : IsSolved one) (is : problem_asked one.question ≡ problem_of s c) where
+  -- What was solved for a command can be certified in the script's letters.
+  pub certified_for : IsCertified (claim_of s.names one)
+  certified_for =
       certified (problem_asked one.question) solved.problem s.names coherent.letters (sym (ap (λ (P : Problem). P.n) is ∙ in_script s s.field s.d c.word c.subject belongs.1))
       one.entries solved.legal one.answer (ring_variables (problem_asked one.question).p (problem_asked one.question).n one.answer solved.ring) solved.value
 
-  module _ (solved : List Solved) (all : All IsSolved solved) where
-    -- what stands at a place was solved
-    at_place : (place : ℕ) (one : Solved) → slice_get solved place ≡ Some one → IsSolved one
-    at_place place one at = subst IsSolved (get_or_from_slice_get solved place one one at) (all place one (slice_get_within solved place one at))
-
-    -- the places of some commands' problems
-    abbrev pub ArePlaces : List Command → List ℕ → Type 0
-    ArePlaces cs places = AllZip (λ c place. IsPlaceOf (problem_of s c) solved place) cs places
-
-    -- What is claimed at these places is certified, a claim for each command.
-    pub claims_are : (cs : List Command) (places : List ℕ) → ((k : ℕ) (z : Command) → k < length cs → BelongsTo s (get_or cs k z)) → ArePlaces cs places →
-        AllByRecursion IsCertified (claims_at s.names solved places) × AllZip (Certifies s) cs (claims_at s.names solved places) × (length (claims_at s.names solved places) ≡ length cs) × (length places ≡ length cs)
-    claims_are [] [] belong h = (tt, tt, refl, refl)
-    claims_are [] (place ∷ places) belong h = absurd h
-    claims_are (c ∷ cs) [] belong h = absurd h
-    claims_are (c ∷ cs) (place ∷ places) belong h =
-        let one = h.0.0 in
-        let at : slice_get solved place ≡ Some one = h.0.1 in
-        let is : problem_asked one.question ≡ problem_of s c = h.0.2 in
-        let own = at_place place one at in
-        let rest = claims_are cs places (λ k z l. belong (suc k) z (omega (arith, l))) h.1 in
-        let x = claim_of s.names one in
-        let here : Certifies s c x = record { letters = refl; problem = is; answer = own.value; accepted = accepted x own.problem own.legal own.settled own.value refl } in
-        subst (λ (o : Option Solved). AllByRecursion IsCertified (cons_option (option_map (claim_of s.names) o) (claims_at s.names solved places))
-        × AllZip (Certifies s) (c ∷ cs) (cons_option (option_map (claim_of s.names) o) (claims_at s.names solved places))
-        × (length (cons_option (option_map (claim_of s.names) o) (claims_at s.names solved places)) ≡ length (c ∷ cs)) × (length (place ∷ places) ≡ length (c ∷ cs))) (sym at)
-        ((certified_for c (belong 0 c (omega arith)) one own is, rest.0), (here, rest.1), ap suc rest.2, ap suc rest.3)
-
-    -- Each place is that of a problem that can be certified.
-    pub claimable : (cs : List Command) (places : List ℕ) → ((k : ℕ) (z : Command) → k < length cs → BelongsTo s (get_or cs k z)) → ArePlaces cs places → (k : ℕ) (z : ℕ) → k < length places → IsClaimable s.names solved (get_or places k z)
-    claimable [] [] belong h k z l = absurd (omega (arith, l))
-    claimable [] (place ∷ places) belong h k z l = absurd h
-    claimable (c ∷ cs) [] belong h k z l = absurd h
-    claimable (c ∷ cs) (place ∷ places) belong h zero z l = (h.0.0, h.0.1, certified_for c (belong 0 c (omega arith)) h.0.0 (at_place place h.0.0 h.0.1) h.0.2)
-    claimable (c ∷ cs) (place ∷ places) belong h (suc k) z l = claimable cs places (λ k z l. belong (suc k) z (omega (arith, l))) h.1 k z (omega (arith, l))
-
-    -- The text of what is claimed of all commands is the script's certificate.
-    pub certificate_is : (places : List ℕ) → ArePlaces s.commands places → IsCertificate s (certificate_text (claims_at s.names solved places))
-    certificate_is places h =
-        let are = claims_are s.commands places coherent.belong h in
-        record {
-          blocks = claims_at s.names solved places;
-          is = record { some = subst (λ k. 1 ≤ k) (sym are.2) coherent.asked; few = subst (λ k. k ≤ max_commands) (sym are.2) coherent.few; each = are.0 };
-          each = are.1;
-          spelled = refl;
-        }
+  -- And it certifies the command.
+  pub certifies : Certifies s c (claim_of s.names one)
+  certifies = record { letters = refl; problem = is; answer = solved.value; accepted = accepted (claim_of s.names one) solved.problem solved.legal solved.settled solved.value refl }
 
 -- ---- lines
--- The lines of blocks one after another, with the last line, are those of a certificate behind its first line.
-pub blocks_text : (i : ℕ) (xs : List Block) → text (blocks_lines i xs) ≡ text (in_turn numbered_block i xs) ++ line_text (numbered (codes "done") (i + length xs))
-blocks_text i [] = append-nil (line_text (numbered (codes "done") i)) ∙ ap (λ k. line_text (numbered (codes "done") k)) (let p : i ≡ i + 0 = omega arith in p)
-blocks_text i (x ∷ xs) =
-    text-append (block_lines (suc i) x) (blocks_lines (suc i) xs)
-    ∙ ap (λ (z : List ℕ). text (block_lines (suc i) x) ++ z) (blocks_text (suc i) xs)
-    ∙ sym (append_assoc (text (block_lines (suc i) x)) (text (in_turn numbered_block (suc i) xs)) (line_text (numbered (codes "done") (suc i + length xs))))
-    ∙ ap (λ (z : List ℕ). z ++ line_text (numbered (codes "done") (suc i + length xs))) (sym (text-append (numbered_block i x) (in_turn numbered_block (suc i) xs)))
-    ∙ ap (λ k. text (in_turn numbered_block i (x ∷ xs)) ++ line_text (numbered (codes "done") k)) (let p : suc i + length xs ≡ i + length (x ∷ xs) = omega arith in p)
+-- The text of the first blocks, behind so many.
+abbrev pub blocks_text : ℕ → List Block → List ℕ
+blocks_text i xs = text (in_turn numbered_block i xs)
 
--- the lines of what is claimed at these places, numbered from i on
-abbrev pub claims_text : List ℕ → List Solved → ℕ → List ℕ → List ℕ
-claims_text letters solved i places = text (in_turn numbered_block i (map block_of (claims_at letters solved places)))
+-- The lines of blocks with the last line are those of the first ones, and then those of the others.
+blocks_split : (i : ℕ) (xs ys : List Block) → text (blocks_lines i (xs ++ ys)) ≡ blocks_text i xs ++ text (blocks_lines (i + length xs) ys)
+blocks_split i [] ys = ap (λ k. text (blocks_lines k ys)) (let p : i ≡ i + 0 = omega arith in p)
+blocks_split i (x ∷ xs) ys =
+    let rest : List ℕ = text (blocks_lines (i + length (x ∷ xs)) ys) in
+    let same : suc i + length xs ≡ i + length (x ∷ xs) = omega arith in
+    text-append (block_lines (suc i) x) (blocks_lines (suc i) (xs ++ ys))
+    ∙ ap (λ (z : List ℕ). text (block_lines (suc i) x) ++ z) (blocks_split (suc i) xs ys ∙ ap (λ k. blocks_text (suc i) xs ++ text (blocks_lines k ys)) same)
+    ∙ sym (append_assoc (text (block_lines (suc i) x)) (blocks_text (suc i) xs) rest)
+    ∙ ap (λ (z : List ℕ). z ++ rest) (sym (text-append (numbered_block i x) (in_turn numbered_block (suc i) xs)))
 
--- Those at a place and behind it are those at the place and then the others.
-pub claims_next : (letters : List ℕ) (solved : List Solved) (i place : ℕ) (one : Solved) → slice_get solved place ≡ Some one → (places : List ℕ) →
-    claims_text letters solved i (place ∷ places) ≡ text (block_lines (suc i) (block_of (claim_of letters one))) ++ claims_text letters solved (suc i) places
-claims_next letters solved i place one at places =
-    ap (λ (o : Option Solved). text (in_turn numbered_block i (map block_of (cons_option (option_map (claim_of letters) o) (claims_at letters solved places))))) at
-    ∙ text-append (block_lines (suc i) (block_of (claim_of letters one))) (in_turn numbered_block (suc i) (map block_of (claims_at letters solved places)))
+-- One block more stands behind the first ones.
+blocks_push : (i : ℕ) (xs : List Block) (y : Block) → blocks_text i (xs ++ y ∷ []) ≡ blocks_text i xs ++ text (block_lines (suc (i + length xs)) y)
+blocks_push i [] y =
+    text-append (block_lines (suc i) y) []
+    ∙ append-nil (text (block_lines (suc i) y))
+    ∙ ap (λ k. text (block_lines k y)) (let p : suc i ≡ suc (i + 0) = omega arith in p)
+blocks_push i (x ∷ xs) y =
+    let last : List ℕ = text (block_lines (suc (i + length (x ∷ xs))) y) in
+    let same : suc (suc i + length xs) ≡ suc (i + length (x ∷ xs)) = omega arith in
+    text-append (block_lines (suc i) x) (in_turn numbered_block (suc i) (xs ++ y ∷ []))
+    ∙ ap (λ (z : List ℕ). text (block_lines (suc i) x) ++ z) (blocks_push (suc i) xs y ∙ ap (λ k. blocks_text (suc i) xs ++ text (block_lines k y)) same)
+    ∙ sym (append_assoc (text (block_lines (suc i) x)) (blocks_text (suc i) xs) last)
+    ∙ ap (λ (z : List ℕ). z ++ last) (sym (text-append (numbered_block i x) (in_turn numbered_block (suc i) xs)))
 
--- The text of the certificate is the first line, the blocks, and the last line.
-pub certificate_parts : (letters : List ℕ) (solved : List Solved) (places : List ℕ) (n : ℕ) → length (claims_at letters solved places) ≡ n →
-    certificate_text (claims_at letters solved places) ≡ line_text head_line ++ (claims_text letters solved 0 places ++ line_text (numbered (codes "done") n))
-certificate_parts letters solved places n count =
-    let ys : List Block = map block_of (claims_at letters solved places) in
-    let number : 0 + length ys ≡ n = omega (arith, length-map (claims_at letters solved places) block_of, count) in
-    ap (λ (z : List ℕ). line_text head_line ++ z) (blocks_text 0 ys ∙ ap (λ k. text (in_turn numbered_block 0 ys) ++ line_text (numbered (codes "done") k)) number)
+-- what is written once the blocks of the first claims are
+abbrev pub begun_text : List Certified → List ℕ
+begun_text xs = line_text head_line ++ blocks_text 0 (map block_of xs)
+
+-- what is still to be written behind so many claims
+abbrev pub rest_text : ℕ → List Certified → List ℕ
+rest_text k ys = text (blocks_lines k (map block_of ys))
+
+-- there are as many blocks as claims
+as_many : (xs : List Certified) → 0 + length (map block_of xs) ≡ length xs
+as_many xs = omega (arith, length-map xs block_of)
+
+-- A certificate is what is written once the blocks of its first claims are, and the rest.
+pub certificate_split : (xs ys : List Certified) → certificate_text (xs ++ ys) ≡ begun_text xs ++ rest_text (length xs) ys
+certificate_split xs ys =
+    ap (λ (z : List Block). line_text head_line ++ text (blocks_lines 0 z)) (map-append block_of xs ys)
+    ∙ ap (λ (z : List ℕ). line_text head_line ++ z) (blocks_split 0 (map block_of xs) (map block_of ys) ∙ ap (λ k. blocks_text 0 (map block_of xs) ++ rest_text k ys) (as_many xs))
+    ∙ sym (append_assoc (line_text head_line) (blocks_text 0 (map block_of xs)) (rest_text (length xs) ys))
+
+-- One claim more is written by its block.
+pub begun_more : (xs : List Certified) (y : Certified) → begun_text (xs ++ y ∷ []) ≡ begun_text xs ++ text (block_lines (suc (length xs)) (block_of y))
+begun_more xs y =
+    ap (λ (z : List Block). line_text head_line ++ blocks_text 0 z) (map-append block_of xs (y ∷ []))
+    ∙ ap (λ (z : List ℕ). line_text head_line ++ z) (blocks_push 0 (map block_of xs) (block_of y) ∙ ap (λ k. blocks_text 0 (map block_of xs) ++ text (block_lines (suc k) (block_of y))) (as_many xs))
+    ∙ sym (append_assoc (line_text head_line) (blocks_text 0 (map block_of xs)) (text (block_lines (suc (length xs)) (block_of y))))
+
+-- Behind all claims the last line is left.
+pub rest_last : (k : ℕ) → rest_text k [] ≡ line_text (numbered (codes "done") k)
+rest_last k = append-nil (line_text (numbered (codes "done") k))

@@ -15,3 +15,5 @@ mod Benches
 mod Certified
 pub mod Accepted
 pub mod Certificates
+pub mod Existence
+pub mod Progress

@@ -24,7 +24,7 @@ pub poly_same : (f g : Polynomial) → f.n ≡ g.n → f.terms ≡ g.terms → f
 poly_same f g n terms = ap (λ k. in_variables k f.terms) n ∙ ap (in_variables g.n) terms
 
 -- the terms of polynomials in n variables
-terms_back : (n : ℕ) (fs : List Poly) → map (λ (f : Polynomial). f.terms) (map (in_variables n) fs) ≡ fs
+pub terms_back : (n : ℕ) (fs : List Poly) → map (λ (f : Polynomial). f.terms) (map (in_variables n) fs) ≡ fs
 terms_back n [] = refl
 terms_back n (f ∷ fs) = ap (λ l. f ∷ l) (terms_back n fs)
 

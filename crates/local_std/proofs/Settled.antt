@@ -26,7 +26,7 @@ pub record Showing (P : Problem) (entries : List Entry) (table : Shape) (leads :
 
 module _ (P : Problem) (problem : IsProblem P) (entries : List Entry) (legal : Legal P entries) (settled : AllSettled P entries) where
   -- the leads of the entries show those of the ideal
-  shows : ShowLeads P (leads_of entries)
+  pub shows : ShowLeads P (leads_of entries)
   shows m e low = lead_is_multiple P (problem_is_admissible P problem) entries legal settled m (rank_of (shape_of P) m) (record { in_ring = e; low = low; rank = refl })
 
   module _ (table : Shape) (leads : List ℕ) (s : Stairs) (h : Showing P entries table leads s) where

@@ -11,4 +11,5 @@ pub mod View
 pub mod Solved
 pub mod Number
 pub mod Claims
+pub mod Answered
 pub mod CertSink

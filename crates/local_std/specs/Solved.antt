@@ -1,5 +1,5 @@
 -- Problems that were solved.
-use Rattle.std.specs.Prelude.{◌≡◌, ℕ, List, Some, slice_get, filter_map, option_map}
+use Rattle.std.specs.Prelude.{◌≡◌, ℕ, List, Some, slice_get}
 use Rattle.sparse_poly.specs.Ideal.{Problem, IsProblem}
 use Rattle.mora_law.specs.Legal.{Legal}
 use Rattle.mora_law.specs.Settled.{AllSettled}
@@ -31,7 +31,3 @@ IsPlaceOf P solved place = (one : Solved) × (slice_get solved place ≡ Some on
 -- what is claimed of a problem that was solved, in these letters
 abbrev pub claim_of : List ℕ → Solved → Certified
 claim_of letters one = claim letters (problem_asked one.question) one.entries one.answer
-
--- what is claimed of those at these places
-abbrev pub claims_at : List ℕ → List Solved → List ℕ → List Certified
-claims_at letters solved places = filter_map (λ place. option_map (claim_of letters) (slice_get solved place)) places

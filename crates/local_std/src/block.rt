@@ -1,13 +1,15 @@
 // The blocks that answer the commands of a script.
-ghost use Rattle.std.specs.Prelude.{◌≡◌, ◌++◌, List, All, IfOk, string_bytes, if◌then◌else◌};
+ghost use Rattle.std.specs.Prelude.{◌≡◌, ◌+◌, ◌<◌, ◌++◌, ℕ, List, length, All, IfOk, Some, slice_get, string_bytes};
 ghost use Rattle.std.specs.Bool.{OnTrue, OnFalse};
-ghost use Rattle.std.specs.List.{AllZip};
 ghost use Rattle.sparse_poly.specs.Ideal.{Fits};
 ghost use Rattle.ring_reader.specs.Coherent.{IsCoherent, BelongsTo};
 ghost use Rattle.text_out.specs.Answers.{IsInRing};
 ghost use Rattle.local_std.specs.declared.solved.Solved.{Solved as SolvedProblem};
 ghost use Rattle.local_std.specs.Solved.{IsSolved, IsPlaceOf};
-ghost use Rattle.local_std.specs.Answer.{problem_of, IsAnswerOf, IsBlock, IsAnswer, AllFit, SomeIsSmall};
+ghost use Rattle.local_std.specs.Answer.{problem_of, IsAnswerOf, IsBlock};
+ghost use Rattle.local_std.specs.Answered.{AreAnswered, status_of};
+ghost use Rattle.script_grammar.specs.declared.script.Command.{Command as SomeCommand};
+ghost use Rattle.script_grammar.specs.declared.script.Script.{Script as SomeScript};
 
 use crate::answer::{answer_of, is_fitting};
 use crate::outcome::Status;
@@ -24,20 +26,31 @@ struct Block {
     text: String,
 }
 
-/// The blocks of all commands, whether the degree fits for each, the problems that were solved, and the place of each
-/// command's problem among these.
+/// The blocks of the first commands, behind what stands in front; whether the degree fits for each; and the problems that were
+/// solved, each once.
 #[derive(Drop)]
 pub struct Blocks<'a> {
     pub fits: bool,
     pub text: String,
     pub solved: Vec<Solved<'a>>,
-    pub places: Vec<usize>,
 }
 
-impl Blocks<'_> {
+impl<'a> Blocks<'a> {
+    /// No block yet, behind what stands in front.
+    pub fn behind(alloc: Global, front: String) -> Blocks<'a>
+        ensures answered { (s : SomeScript) → AreAnswered s (string_bytes front) 0 result.fits (string_bytes result.text) }
+        ensures solved { All IsSolved result.solved.items }
+    {
+        Blocks {
+            fits: true,
+            text: front,
+            solved: Vec::new(alloc),
+        }
+    }
+
     /// The status of an answer with these blocks.
     pub fn status(&self) -> Status
-        ensures { result ≡ (if self.now.fits then Status.Fits else Status.TooSmall) }
+        ensures { result ≡ status_of self.now.fits }
     {
         if self.fits {
             Status::Fits
@@ -45,36 +58,31 @@ impl Blocks<'_> {
             Status::TooSmall
         }
     }
-}
 
-/// The blocks of all commands, in order. A problem that several commands have is solved once.
-pub fn blocks_of(alloc: Global, script: &Script) -> Result<Blocks<'_>, AllocError>
-    requires { IsCoherent script.now }
-    ensures text { IfOk result (λ b. IsAnswer script.now (string_bytes b.text)) }
-    ensures fits { IfOk result (λ b. OnTrue b.fits (AllFit script.now script.now.commands)) }
-    ensures small { IfOk result (λ b. OnFalse b.fits (SomeIsSmall script.now script.now.commands)) }
-    ensures solved { IfOk result (λ b. All IsSolved b.solved.items) }
-    ensures places { IfOk result (λ b. AllZip (λ c place. IsPlaceOf (problem_of script.now c) b.solved.items place)
-        script.now.commands b.places.items) }
-{
-    let mut solved = Vec::new(alloc);
-    let mut places = Vec::new(alloc);
-    let mut fits = true;
-    let mut text = String::new(alloc);
-    for k in 0..script.commands.len() {
+    /// Answers command `k` behind those before it, and tells the place of its problem among those that were solved. A problem that
+    /// several commands have is solved once.
+    pub fn push(
+        &mut self,
+        alloc: Global,
+        script: &'a Script,
+        k: usize,
+    ) -> Result<usize, AllocError>
+        requires coherent { IsCoherent script.now }
+        requires within { k < length script.now.commands }
+        requires solved { All IsSolved self.old.solved.items }
+        ensures answered { IfOk result (λ place. (front : List ℕ) → AreAnswered script.now front k self.old.fits (string_bytes self.old.text)
+            → AreAnswered script.now front (k + 1) self.new.fits (string_bytes self.new.text)) }
+        ensures solved { IfOk result (λ place. All IsSolved self.new.solved.items) }
+        ensures place { IfOk result (λ place. (c : SomeCommand) → slice_get script.now.commands k ≡ Some c
+            → IsPlaceOf (problem_of script.now c) self.new.solved.items place) }
+    {
         let command = script.commands.get(k);
-        let place = place_of(alloc, script, command, &mut solved)?;
-        let block = block_at(alloc, script, k as u32 + 1, command, &solved, place)?;
-        text.push_str(&block.text)?;
-        fits = fits && block.fits;
-        places.push(place)?;
+        let place = place_of(alloc, script, command, &mut self.solved)?;
+        let block = block_at(alloc, script, k as u32 + 1, command, &self.solved, place)?;
+        self.text.push_str(&block.text)?;
+        self.fits = self.fits && block.fits;
+        Ok(place)
     }
-    Ok(Blocks {
-        fits,
-        text,
-        solved,
-        places,
-    })
 }
 
 /// The place of a command's problem among those that were solved. It is solved, unless it is among them.

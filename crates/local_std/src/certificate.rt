@@ -1,16 +1,15 @@
-// The certificate of a script: the block of each command, in order.
-ghost use Rattle.std.specs.Prelude.{◌≡◌, ◌≤◌, ◌∷◌, List, ℕ, length, map, All, codes, Some, slice_get};
-ghost use Rattle.std.specs.List.{AllZip};
+// A script is answered command by command, and its certificate written block by block.
+ghost use Rattle.std.specs.Prelude.{◌≡◌, ◌≤◌, codes, string_bytes, Some, slice_get};
 ghost use Rattle.script_grammar.specs.Limits.{max_commands};
 ghost use Rattle.ring_reader.specs.Coherent.{IsCoherent};
 ghost use Rattle.cert_grammar.specs.Lines.{line_text, text as lines_text};
-ghost use Rattle.cert_grammar.specs.Cert.{head_line, numbered, in_turn, block_lines};
-ghost use Rattle.cert_grammar.specs.Certified.{block_of, certificate_text};
+ghost use Rattle.cert_grammar.specs.Cert.{head_line, numbered, block_lines};
+ghost use Rattle.cert_grammar.specs.Certified.{block_of};
 ghost use Rattle.cert_write.specs.Writes.{WritesOrStops};
-ghost use Rattle.local_std.specs.Answer.{problem_of};
-ghost use Rattle.local_std.specs.Solved.{IsSolved, IsPlaceOf, claim_of, claims_at};
+ghost use Rattle.local_std.specs.Solved.{claim_of};
 ghost use Rattle.local_std.specs.declared.solved.Solved.{Solved as SolvedProblem};
-ghost use Rattle.local_std.specs.Claims.{IsClaimable, numbered_block};
+ghost use Rattle.local_std.specs.Claims.{IsClaimable};
+ghost use Rattle.local_std.specs.Answered.{Answers};
 
 use crate::block::Blocks;
 use crate::solved::Solved;
@@ -20,23 +19,33 @@ use ring_reader::Script;
 use sparse_poly::Letters;
 use std::alloc::Global;
 
-/// Writes the certificate of a script whose commands are answered.
-pub fn write_certificate<C: Sink>(
+/// Answers a script behind what stands in front: each command in order is solved, and then its block of the certificate is written.
+pub fn answer_all<'a, C: Sink>(
     alloc: Global,
+    script: &'a Script,
+    front: String,
     cert: &mut C,
-    script: &Script,
-    blocks: &Blocks<'_>,
-) -> Result<(), CertWriteError>
-    requires coherent { IsCoherent script.now }
-    requires solved { All IsSolved blocks.now.solved.items }
-    requires places { AllZip (λ c place. IsPlaceOf (problem_of script.now c) blocks.now.solved.items place)
-        script.now.commands blocks.now.places.items }
-    ensures { WritesOrStops (C.written cert.old) (C.written cert.new) (C.faults cert.old) (C.faults cert.new) result
-        (certificate_text (claims_at script.now.names blocks.now.solved.items blocks.now.places.items)) }
+) -> Result<Blocks<'a>, CertWriteError>
+    requires { IsCoherent script.now }
+    ensures { Answers script.now (string_bytes front) (C.written cert.old) (C.written cert.new) (C.faults cert.old) (C.faults cert.new) result }
 {
     begin(cert)?;
-    write_blocks(alloc, cert, &script.names, &blocks.solved, &blocks.places)?;
-    end(cert, blocks.places.len())
+    let mut blocks = Blocks::behind(alloc, front);
+    for k in 0..script.commands.len() {
+        let Ok(place) = blocks.push(alloc, script, k) else {
+            return Err(CertWriteError::Memory);
+        };
+        write_claim(
+            alloc,
+            cert,
+            k as u32 + 1,
+            &script.names,
+            &blocks.solved,
+            place,
+        )?;
+    }
+    end(cert, script.commands.len())?;
+    Ok(blocks)
 }
 
 /// Writes the first line.
@@ -59,25 +68,6 @@ fn end<C: Sink>(cert: &mut C, count: usize) -> Result<(), CertWriteError>
         Ok(()) => Ok(()),
         Err(_) => Err(CertWriteError::Failed),
     }
-}
-
-/// Writes the blocks of the problems at these places among those that were solved.
-fn write_blocks<C: Sink>(
-    alloc: Global,
-    cert: &mut C,
-    names: &Letters,
-    solved: &[Solved<'_>],
-    places: &[usize],
-) -> Result<(), CertWriteError>
-    requires few { length places.now ≤ max_commands }
-    requires claims { All (IsClaimable names.now solved.now) places.now }
-    ensures { WritesOrStops (C.written cert.old) (C.written cert.new) (C.faults cert.old) (C.faults cert.new) result
-        (lines_text (in_turn numbered_block 0 (map block_of (claims_at names.now solved.now places.now)))) }
-{
-    for k in 0..places.len() {
-        write_claim(alloc, cert, k as u32 + 1, names, solved, places[k])?;
-    }
-    Ok(())
 }
 
 /// Writes the block of the problem at a place among those that were solved.

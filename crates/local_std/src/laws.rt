@@ -5,13 +5,27 @@ ghost use Rattle.script_grammar.specs.declared.script.Script.{Script};
 ghost use Rattle.script_grammar.specs.Trees.{Tree};
 ghost use Rattle.script_grammar.specs.Valid.{IsScript};
 ghost use Rattle.cert_check.specs.Certificate.{Accepts};
-ghost use Rattle.local_std.specs.Answer.{IsAnswer, IsCertificate};
+ghost use Rattle.sparse_poly.specs.Ideal.{Problem, IsProblem};
+ghost use Rattle.ring_reader.specs.Coherent.{IsCoherent};
+ghost use Rattle.text_out.specs.declared.answer.Answer.{Answer};
+ghost use Rattle.local_std.specs.declared.outcome.Status.{Status};
+ghost use Rattle.local_std.specs.Answer.{IsAnswerOf, IsAnswer, IsCertificate, Solves};
 ghost use Rattle.local_std.specs.Bench.{max_bench, bench_script};
 ghost use Rattle.local_std.specs.Words.{Request, Asks, HasPath};
 
 /// A script has one answer: at most one text answers what it asks.
 pub fn one_text()
     ensures { (s : Script) (text other : List ℕ) → IsAnswer s text → IsAnswer s other → text ≡ other }
+{}
+
+/// Every problem has an answer: a reduced basis and a staircase where the degree fits, and a first missing monomial elsewhere.
+pub fn every_problem_has_an_answer()
+    ensures { (P : Problem) → IsProblem P → (answer : Answer) × IsAnswerOf P answer }
+{}
+
+/// Every script that is read has an answer and a certificate, whose blocks are accepted.
+pub fn every_script_has_an_answer()
+    ensures { (s : Script) → IsCoherent s → (status : Status) × (text proof : List ℕ) × Solves s status text proof }
 {}
 
 /// Each script of the bench is in the grammar.

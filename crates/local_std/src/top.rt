@@ -1,5 +1,5 @@
 // The top call.
-ghost use Rattle.std.specs.Prelude.{◌≡◌, ℕ, ◌≤◌, ◌⊎◌, ◌++◌, List, map, string_bytes, IfOk};
+ghost use Rattle.std.specs.Prelude.{◌≡◌, ℕ, ◌≤◌, ◌⊎◌, List, map, string_bytes};
 ghost use Rattle.local_std.specs.Words.{Request as Requested, Asks, solve, check as check_of, bench as bench_of};
 ghost use Rattle.local_std.specs.Bench.{max_bench};
 ghost use Rattle.local_std.specs.Endings.{HasText, IsAnswered};
@@ -11,8 +11,7 @@ ghost use Rattle.local_std.specs.Texts.{usage_line, refusal_line as line_of_refu
 ghost use Rattle.local_std.specs.declared.outcome.Status.TheVariants.{Input, Usage};
 
 use crate::bench::{bench_line, read_bench};
-use crate::block::blocks_of;
-use crate::certificate::write_certificate;
+use crate::certificate::answer_all;
 use crate::gate::Gate;
 use crate::outcome::Status;
 use crate::refusal::refusal_line;
@@ -23,7 +22,7 @@ use cert_write::CertWriteError;
 use io_edge::{ReadAllError, Sink, Source, read_all, write_all_counted};
 use ring_reader::{ReadError, Script, read_script};
 use script_grammar::ReadKind;
-use std::alloc::{AllocError, Global};
+use std::alloc::Global;
 use std::thread::Threads;
 
 /// Does all that the program does. The words leave out the program's name.
@@ -154,8 +153,8 @@ fn refused<K: Sink>(out: &mut K, line: u32, column: u32, kind: ReadKind) -> Stat
     written(out, text.as_str().as_bytes(), Status::Input)
 }
 
-/// Answers a script that was read: all commands are solved, the certificate is written, and then the blocks are, behind what
-/// stands in front.
+/// Answers a script that was read: each command in order is solved and its block of the certificate written, and then the answer
+/// is, behind what stands in front.
 fn answered<K: Sink, C: Sink>(
     alloc: Global,
     script: &Script,
@@ -167,26 +166,11 @@ fn answered<K: Sink, C: Sink>(
     ensures { Concludes (SolvesBehind (string_bytes front) script.now) (lent K.written K.faults out.old out.new)
         (lent C.written C.faults cert.old cert.new) result }
 {
-    let Ok(blocks) = blocks_of(alloc, script) else {
-        return Status::Memory;
-    };
-    let Ok(text) = joined(front, &blocks.text) else {
-        return Status::Memory;
-    };
-    match write_certificate(alloc, cert, script, &blocks) {
-        Ok(()) => written(out, text.as_bytes(), blocks.status()),
+    match answer_all(alloc, script, front, cert) {
+        Ok(blocks) => written(out, blocks.text.as_bytes(), blocks.status()),
         Err(CertWriteError::Failed) => Status::WriteFault,
         Err(CertWriteError::Memory) => Status::Memory,
     }
-}
-
-/// A text and the one behind it.
-fn joined(front: String, text: &String) -> Result<String, AllocError>
-    ensures { IfOk result (λ s. string_bytes s ≡ string_bytes front ++ string_bytes text.now) }
-{
-    let mut whole = front;
-    whole.push_str(text)?;
-    Ok(whole)
 }
 
 /// Checks a certificate.

@@ -6,11 +6,11 @@ use std::alloc::Global;
 use std::test::Fail;
 use std::thread::Threads;
 
-const KEPT: &[u8] =
+pub(crate) const KEPT: &[u8] =
     b"lstd-cert 1\nblock 1\np 32003\nvars x y\nD 4\ngens 2\nx-x^2-y^3\nx\nentries 2\nentry 0 gen 0\nread 0 15\npoly x-x^2-y^3\nentry 1 gen 1\nread 1 15\nread 1 15\nread 1 15\npoly y^3\nfits\nbasis 2\nx\ny^3\ncorner y^2\nstair 3 1 y y^2\nend 1\ndone 1\n";
 
 /// The same without the last two readings of its second entry.
-const CUT_SHORT: &[u8] =
+pub(crate) const CUT_SHORT: &[u8] =
     b"lstd-cert 1\nblock 1\np 32003\nvars x y\nD 4\ngens 2\nx-x^2-y^3\nx\nentries 2\nentry 0 gen 0\nread 0 15\npoly x-x^2-y^3\nentry 1 gen 1\nread 1 15\npoly y^3\nfits\nbasis 2\nx\ny^3\ncorner y^2\nstair 3 1 y y^2\nend 1\ndone 1\n";
 
 /// Whether the text is answered by this status and line, and nothing is written to `cert`.

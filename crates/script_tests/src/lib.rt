@@ -10,6 +10,8 @@ mod certificates;
 #[cfg(test)]
 mod checks;
 #[cfg(test)]
+mod faults;
+#[cfg(test)]
 mod reading;
 #[cfg(test)]
 mod run;

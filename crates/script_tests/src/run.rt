@@ -30,13 +30,38 @@ pub(crate) fn run_with<R: Threads + Sync>(
     room: usize,
     cert_room: usize,
 ) -> Result<(Status, MemSink, MemSink), Fail> {
+    let failing = Failing {
+        reads: failing_reads,
+        answer: &[],
+        certificate: &[],
+    };
+    run_failing(rt, alloc, words, script, &failing, room, cert_room)
+}
+
+/// The numbers, from 0, of the reads that fail, and of the writes of the answer and of the certificate that do.
+pub(crate) struct Failing<'a> {
+    pub(crate) reads: &'a [u64],
+    pub(crate) answer: &'a [u64],
+    pub(crate) certificate: &'a [u64],
+}
+
+/// The same where some calls fail.
+pub(crate) fn run_failing<R: Threads + Sync>(
+    rt: &R,
+    alloc: Global,
+    words: &[&str],
+    script: &[u8],
+    failing: &Failing<'_>,
+    room: usize,
+    cert_room: usize,
+) -> Result<(Status, MemSink, MemSink), Fail> {
     let mut given = Vec::new(alloc);
     for word in words {
         given.push(String::from_str(alloc, *word)?)?;
     }
-    let mut source = MemSource::new(script.to_vec(alloc)?, 10, failing_reads.to_vec(alloc)?);
-    let mut out = MemSink::new(alloc, room, 7, Vec::new(alloc))?;
-    let mut cert = MemSink::new(alloc, cert_room, 100, Vec::new(alloc))?;
+    let mut source = MemSource::new(script.to_vec(alloc)?, 10, failing.reads.to_vec(alloc)?);
+    let mut out = MemSink::new(alloc, room, 7, failing.answer.to_vec(alloc)?)?;
+    let mut cert = MemSink::new(alloc, cert_room, 100, failing.certificate.to_vec(alloc)?)?;
     let status = run_lstd(
         rt,
         alloc,

@@ -7,3 +7,4 @@ pub mod Decided
 pub mod Degrees
 pub mod Picks
 pub mod Shown
+pub mod Existence

@@ -17,7 +17,7 @@ use Rattle.staircase.proofs.Decided.{multiple_decided}
 use Rattle.mono_rank.proofs.Members.{in_rest}
 
 -- a rising list without its first number rises
-rising_rest : (r : ℕ) (rs : List ℕ) → IsRising (r ∷ rs) → IsRising rs
+pub rising_rest : (r : ℕ) (rs : List ℕ) → IsRising (r ∷ rs) → IsRising rs
 rising_rest r rs h = record { rising = λ i j l m. h.rising (suc i) (suc j) (omega (arith, l)) (omega (arith, m)) }
 
 -- a member of a list is mapped to a member
@@ -44,7 +44,7 @@ falls P (a ∷ b ∷ rs) h has = (first, falls P (b ∷ rs) (rising_rest a (b �
 
 module _ (P : Problem) (leads ranks : List ℕ) (some : 1 ≤ P.n) (shown : ShowLeads P leads) (S : IsStairOf (shape_of P) leads ranks) where
   -- each rank of the staircase is that of a monomial that is no multiple
-  ranked : (r : ℕ) → Contains ranks r → HasRank (shape_of P) (mono_of_rank (shape_of P) r) r × (¬ IsMultipleOfRanks (shape_of P) leads (mono_of_rank (shape_of P) r))
+  pub ranked : (r : ℕ) → Contains ranks r → HasRank (shape_of P) (mono_of_rank (shape_of P) r) r × (¬ IsMultipleOfRanks (shape_of P) leads (mono_of_rank (shape_of P) r))
   ranked r c =
       let x = (S.exactly r).0 c in
       let same : x.0 ≡ mono_of_rank (shape_of P) r = sym (mono_of_rank-is (shape_of P) x.0 r x.1) in
