@@ -115,8 +115,7 @@ module _ (s : Script) (coherent : IsCoherent s) where
   completed : (k : ℕ) (xs : List Certified) → AllZip (Certifies s) (take k s.commands) xs → AllByRecursion IsCertified xs →
       (ys : List Certified) × AllZip (Certifies s) s.commands (xs ++ ys) × AllByRecursion IsCertified (xs ++ ys)
   completed k xs each certified =
-      let rest = some_claims (drop k s.commands) (All-drop (BelongsTo s) k s.commands coherent.belong) in
-      (
+      let rest = some_claims (drop k s.commands) (All-drop (BelongsTo s) k s.commands coherent.belong) in (
         rest.0,
         subst (λ (l : List Command). AllZip (Certifies s) l (xs ++ rest.0)) (take-append-drop k s.commands) (zip_append (Certifies s) (take k s.commands) (drop k s.commands) xs rest.0 each rest.1),
         all_append IsCertified xs rest.0 certified rest.2,

@@ -61,12 +61,7 @@ impl<'a> Blocks<'a> {
 
     /// Answers command `k` behind those before it, and tells the place of its problem among those that were solved. A problem that
     /// several commands have is solved once.
-    pub fn push(
-        &mut self,
-        alloc: Global,
-        script: &'a Script,
-        k: usize,
-    ) -> Result<usize, AllocError>
+    pub fn push(&mut self, alloc: Global, script: &'a Script, k: usize) -> Result<usize, AllocError>
         requires coherent { IsCoherent script.now }
         requires within { k < length script.now.commands }
         requires solved { All IsSolved self.old.solved.items }

@@ -10,6 +10,7 @@ use std::thread::Threads;
 
 /// The room of each sink, and more calls than any run here makes.
 const ROOM: usize = 100_000;
+
 const CALLS: u64 = 1_000;
 
 /// A command, what its source has, and the status where nothing fails.
@@ -155,7 +156,10 @@ fn no_room_for_the_answer(rt: HostRuntime) -> Result<(), Fail> {
 }
 
 /// Words, and bytes of a source whose first read is counted among the failing ones or not.
-const LINES: [(&[&str], &[u8], &[u64]); 2] = [(&["solve", "x"], POWERS, &[0]), (&["check"], b"", &[])];
+const LINES: [(&[&str], &[u8], &[u64]); 2] = [
+    (&["solve", "x"], POWERS, &[0]),
+    (&["check"], b"", &[]),
+];
 
 #[test]
 fn no_room_for_a_line(rt: HostRuntime) -> Result<(), Fail> {

@@ -35,13 +35,13 @@ module _ (T : Shape) (leads : List ℕ) (some : 1 ≤ T.variables) where
       go (ranks, S) (inl M) = (
         ranks,
         subst (IsStairUpTo T leads ranks) (add-one i)
-        (stair_leaves T leads ranks ranks i S (λ m h. (λ t. subst (IsMultipleOfRanks T leads) (same m h) M, λ N. refl)) refl),
+            (stair_leaves T leads ranks ranks i S (λ m h. (λ t. subst (IsMultipleOfRanks T leads) (same m h) M, λ N. refl)) refl),
       )
       go (ranks, S) (inr none) = (
         ranks ++ i ∷ [],
         subst (IsStairUpTo T leads (ranks ++ i ∷ [])) (add-one i)
-        (stair_joins T leads ranks (ranks ++ i ∷ []) i S
-        (λ m h. (λ (t : IsTrue false). absurd (let w : false ≡ true = t in cc (w)), λ N. absurd (none (subst (IsMultipleOfRanks T leads) (sym (same m h)) N)))) refl),
+            (stair_joins T leads ranks (ranks ++ i ∷ []) i S
+            (λ m h. (λ (t : IsTrue false). absurd (let w : false ≡ true = t in cc (w)), λ N. absurd (none (subst (IsMultipleOfRanks T leads) (sym (same m h)) N)))) refl),
       )
 
   -- Some ranks are the staircase of the leads.

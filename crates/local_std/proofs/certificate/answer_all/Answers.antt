@@ -46,10 +46,9 @@ pub loop-k-preserved : goal.loop-k-preserved
 loop-k-preserved g c =
     let s = c.args.script.now in
     let next = next_is s c.requires c.loop-k.k (omega (arith, c.loop-k-test.true, c.len-k-end.ensures)) c.push.new.self.solved.items c.in-Ok.place c.in-Ok.ensures.solved c.in-Ok.ensures.place in
-    let wrote = c.write_claim.ensures next.one (subst (λ (l : List Solved). slice_get l c.in-Ok.place ≡ Some next.one) (sym c.deref.ensures.value) next.there) in
-    (
+    let wrote = c.write_claim.ensures next.one (subst (λ (l : List Solved). slice_get l c.in-Ok.place ≡ Some next.one) (sym c.deref.ensures.value) next.there) in (
       one_written s c.loop-k.k next.command next.at (claim_of s.names next.one) next.certifies next.certified _ _ _ _ c.loop-k.invariant.0 _ _
-      (all_of _ _ _ _ c.write_claim.result _ (text (block_lines (c.loop-k.k + 1) (block_of (claim_of s.names next.one)))) c.in_ok-write_claim.was wrote),
+          (all_of _ _ _ _ c.write_claim.result _ (text (block_lines (c.loop-k.k + 1) (block_of (claim_of s.names next.one)))) c.in_ok-write_claim.was wrote),
       c.in-Ok.ensures.answered (string_bytes c.args.front) c.loop-k.invariant.1,
       c.in-Ok.ensures.solved,
     )
