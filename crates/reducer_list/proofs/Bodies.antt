@@ -3,6 +3,7 @@
 use Rattle.std.proofs.Common.{◌≡◌, ◌≢◌, ◌⊎◌, ℕ, zero, suc, ◌+◌, ◌*◌, ◌<◌, ◌≤◌, List, [], ◌∷◌, ◌++◌, length, take, get_or, set, cond, eqb, refl, sym, ap, ◌∙◌, subst, inl, inr, arith, eq-eqb, ne_eqb, mul-le-mul_right, suc-mul, get_or-set_other, get_or-set_same, length-append}
 use Rattle.std.specs.Prelude.{max}
 use Rattle.std.proofs.lemmas.List.Sums.{sum_by-append}
+use Rattle.std.proofs.lemmas.List.{take-take}
 use mathlib.Core.Logic.{dite}
 use native.Mathlib.Decide.{ℕ_discrete, dec_le}
 use Rattle.run_core.specs.State.{times, highest}
@@ -127,13 +128,22 @@ pub highest_append : (xs ys : List ℕ) → highest (xs ++ ys) ≤ max (highest 
 highest_append [] ys = omega arith
 highest_append (x ∷ xs) ys = let r = highest_append xs ys in omega arith
 
--- the first of a list of chunks
-abbrev pub first_chunk : List ℕ → ℕ
-first_chunk [] = 0
-first_chunk (c ∷ cs) = c
-
 -- two halves have the chunks of one
 pub times_cut : (x : ℕ) (cs : List ℕ) → times x (all_but_last cs) + times x (last_only cs) ≡ times x cs
 times_cut x [] = refl
 times_cut x (c ∷ []) = omega arith
 times_cut x (c ∷ d ∷ cs) = omega (arith, times_cut x (d ∷ cs), times_first x c (d ∷ cs), times_first x c (all_but_last (d ∷ cs)))
+
+-- one word more of a list
+pub take_more : (ws : List ℕ) (k : ℕ) → k < length ws → take k ws ++ get_or ws k 0 ∷ [] ≡ take (k + 1) ws
+take_more ws k less = go ws k less ∙ ap (λ (n : ℕ). take n ws) (let z : suc k ≡ k + 1 = omega arith in z)
+  where
+    go : (ws : List ℕ) (k : ℕ) → k < length ws → take k ws ++ get_or ws k 0 ∷ [] ≡ take (suc k) ws
+    go [] k less = absurd (omega arith)
+    go (w ∷ ws) zero less = refl
+    go (w ∷ ws) (suc k) less = ap (λ (l : List ℕ). w ∷ l) (go ws k (omega arith))
+
+-- the first words of what has as many
+pub take_again : (k : ℕ) (d ws : List ℕ) → (0 < k → d ≡ take k ws) → take k d ≡ take k ws
+take_again zero d ws h = refl
+take_again (suc k) d ws h = ap (take (suc k)) (h (omega arith)) ∙ take-take (suc k) (suc k) ws (omega arith)

@@ -18,8 +18,8 @@ use Rattle.run_core.specs.State.{highest, without}
 use Rattle.run_core.specs.Effects.{kept, given}
 use Rattle.run_core.proofs.Numbers.{has_highest, length_without}
 use Rattle.run_core.proofs.Places.{at_snoc}
-use Rattle.reducer_list.specs.Steps.{all_but_last, last_only, left_half, right_half}
-use Rattle.reducer_list.proofs.Bodies.{first_chunk, times_cut}
+use Rattle.reducer_list.specs.Steps.{first_chunk, all_but_last, last_only, left_half, right_half}
+use Rattle.reducer_list.proofs.Bodies.{times_cut}
 use Rattle.reducer_list.proofs.Frames.{Law, fits_now}
 use Rattle.reducer_list.proofs.Claiming.{shut_here}
 

@@ -14,7 +14,7 @@ use Rattle.run_core.specs.Sound.{IsSound}
 use Rattle.run_core.proofs.Places.{sum_set, sum_one}
 use Rattle.reducer_list.specs.View.{Setting, View, is_busy, Begins}
 use Rattle.reducer_list.specs.Rule.{seat_of, core, Fits, IsSpent, held, Kept}
-use Rattle.reducer_list.specs.Steps.{Me}
+use Rattle.reducer_list.specs.Steps.{first_chunk, Me}
 use Rattle.std.specs.Prelude.{nat_le}
 use Rattle.std.proofs.lemmas.Bool.{leb-true, leb-false}
 use Rattle.atomic_table.specs.Table.{Joins}
@@ -25,8 +25,8 @@ use Rattle.run_core.specs.Idle.{HasAll, IsLast, SettlesAll}
 use Rattle.run_core.proofs.Places.{set_else}
 use Rattle.run_core.proofs.Numbers.{times_append}
 use Rattle.mora_law.specs.Tickets.{total}
-use Rattle.reducer_list.specs.Steps.{both, spent_view, Settled}
-use Rattle.reducer_list.proofs.Bodies.{first_chunk, take_all}
+use Rattle.reducer_list.specs.Steps.{first_chunk, both, spent_view, Settled}
+use Rattle.reducer_list.proofs.Bodies.{take_all}
 use Rattle.reducer_list.proofs.Frames.{Law, fits_now, known_at, kept_view}
 use Rattle.reducer_list.proofs.Claiming.{shut_here}
 

@@ -6,3 +6,5 @@ pub mod Halving
 pub mod Joining
 pub mod Seated
 pub mod Openings
+pub mod Storing
+pub mod Publishing

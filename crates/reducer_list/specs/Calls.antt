@@ -1,9 +1,12 @@
 -- What the calls of the board say. Ours.
-use Rattle.std.specs.Prelude.{◌≡◌, ℕ, ◌<◌, ◌≤◌, length}
+use Rattle.std.specs.Prelude.{◌≡◌, ℕ, ◌<◌, ◌≤◌, length, Some}
 use Rattle.mora_law.specs.Tickets.{total}
 use Rattle.run_core.specs.Effects.{won, later}
 use Rattle.reducer_list.specs.View.{Setting, View, Sitting, Board, top}
-use Rattle.reducer_list.specs.Steps.{with_seat}
+use Rattle.entry_code.specs.Words.{words_of}
+use Rattle.reducer_list.specs.Steps.{with_seat, made, posted}
+use Rattle.reducer_list.specs.declared.answers.Publish.{Publish}
+use Rattle.reducer_list.specs.declared.answers.Publish.TheVariants.{Published, Longer}
 use Rattle.reducer_list.specs.declared.answers.Claim.{Claim}
 use Rattle.reducer_list.specs.declared.answers.Claim.TheVariants.{NoneKnown, Claimed, Later}
 
@@ -20,3 +23,12 @@ abbrev pub HasClaimed : View → Claim → View → Type 0
 HasClaimed v NoneKnown w = (tickets_of v.setting v.seat.known ≤ v.seat.seen) × (w ≡ v)
 HasClaimed v (Claimed k) w = (v.seat.seen < tickets_of v.setting v.seat.known) × (k ≡ v.seat.seen) × (w ≡ with_seat v (won v.seat)) × (w.seat.claims ≤ tickets_of v.setting (top v.setting))
 HasClaimed v (Later c) w = (v.seat.seen < tickets_of v.setting v.seat.known) × (v.seat.seen < c) × (w ≡ with_seat v (later c v.seat))
+
+-- the head behind what is known was seen taken
+abbrev pub HasSeenTaken : View → View → Type 0
+HasSeenTaken v w = (c : ℕ) × (w ≡ record v { taken = Some c })
+
+-- the entry stands in the list, at the place that was known; or the head there was seen taken, and the words of the entry are stored
+abbrev pub HasPublished : View → Publish → View → Type 0
+HasPublished v (Published i) w = (i ≡ v.seat.known) × (w ≡ posted v)
+HasPublished v Longer w = HasSeenTaken (record v { draft = words_of (made v) }) w

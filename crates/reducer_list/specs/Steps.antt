@@ -1,14 +1,20 @@
 -- What each step of the board tells its caller. Ours.
-use Rattle.std.specs.Prelude.{◌≡◌, ◌≢◌, ℕ, ◌<◌, ◌≤◌, List, [], ◌∷◌, ◌++◌, length, sum_by, None, true, min, nat_le, if◌then◌else◌, ⊤}
+use Rattle.std.specs.Prelude.{◌≡◌, ◌≢◌, ℕ, suc, ◌+◌, ◌-◌, ◌<◌, ◌≤◌, List, [], ◌∷◌, ◌++◌, length, take, sum_by, Some, None, true, min, nat_le, if◌then◌else◌, ⊤}
 use Rattle.atomic_table.specs.Table as table
 use Rattle.entry_code.specs.declared.reading.Reading.{Reading}
 use Rattle.entry_code.specs.declared.entry.Entry.{Entry as StoredEntry}
+use Rattle.entry_code.specs.Entry.{Entry}
+use Rattle.entry_code.specs.Words.{words_of}
+use Rattle.mora_law.specs.Legal.{Legal}
 use Rattle.mora_law.specs.Tickets.{total}
-use Rattle.run_core.specs.Hand.{reads_of, read}
+use Rattle.mora_law.specs.declared.step_end.StepEnd.TheVariants.{Stuck}
+use Rattle.mora_law.specs.Run.{last_known}
+use Rattle.run_core.specs.Hand.{draft, marked, hand_end, reads_of, read}
 use Rattle.run_core.specs.State.{Seat, times, steps_of}
 use Rattle.run_core.specs.Effects.{won, later, kept, given, joined, nobody}
 use Rattle.run_core.specs.Idle.{SettlesAll}
-use Rattle.reducer_list.specs.View.{View, top, Begins}
+use Rattle.reducer_list.specs.View.{Setting, View, top, Begins}
+use Rattle.reducer_list.specs.Rule.{body}
 
 -- a seat's view, and the slots that it has, which are none
 abbrev pub Me : Type 0
@@ -105,3 +111,58 @@ LastIdle v =
 -- a load that changes nothing, and shows what the rule says of the seat
 abbrev pub Settled : table.Step StoredEntry → Me → ℕ → Me → Type 0
 Settled st m found m' = (m'.1 ≡ m.1) × (m'.0 ≡ m.0) × LastIdle m.0 × (length m.0.seat.numbers ≤ m.0.setting.workers) × Begins m.0.joined m.0.list
+
+-- the first of a list of chunks
+abbrev pub first_chunk : List ℕ → ℕ
+first_chunk [] = 0
+first_chunk (c ∷ cs) = c
+
+-- the list with another first chunk
+abbrev pub behind_first : ℕ → List ℕ → List ℕ
+behind_first c [] = []
+behind_first c (x ∷ xs) = c ∷ xs
+
+-- the entry that the seat's hand makes
+abbrev pub made : View → Entry
+made v = draft v.setting.problem v.list v.seat.hand
+
+-- the hand's run ends with Stuck by a reading of all that the seat knows
+abbrev pub IsStuck : View → Type 0
+IsStuck v = (hand_end v.setting.problem v.list v.seat.hand ≡ Some Stuck) × (last_known 0 (reads_of v.seat.hand) ≡ v.seat.known)
+
+-- an entry whose words fit into a chunk
+abbrev pub FitsChunk : Setting → Entry → Type 0
+FitsChunk p e = (length e.reads ≤ top p) × (length e.terms ≤ top p) × (length (words_of e) ≤ top p + 8)
+
+-- a load that changes nothing, and shows that what a stuck hand makes fits into a chunk
+abbrev pub Roomy : table.Step StoredEntry → Me → ℕ → Me → Type 0
+Roomy st m found m' = (m'.1 ≡ m.1) × (m'.0 ≡ m.0) × (IsStuck m.0 → FitsChunk m.0.setting (made m.0))
+
+-- one word more is stored in the first chunk
+abbrev pub stored : ℕ → ℕ → View → View
+stored k x v = record v { draft = take k v.draft ++ x ∷ [] }
+
+-- a store into the own unpublished chunk
+abbrev pub Stored : table.Step StoredEntry → Me → ℕ → Me → Type 0
+Stored st m found m' = (m'.1 ≡ m.1) × (m'.0 ≡ stored (st.word - body m.0.setting (first_chunk m.0.chunks)) st.first m.0)
+
+-- the entry is the last of the list, and the number goes on with a chunk that nobody had
+abbrev pub posted : View → View
+posted v = record v {
+  list = v.list ++ made v ∷ [];
+  seat = record v.seat { known = suc v.seat.known; hand = marked v.seat.hand; published = v.seat.published + steps_of (made v) };
+  chunks = behind_first (v.setting.workers + v.seat.known) v.chunks;
+  draft = [];
+  taken = None;
+}
+
+-- the head was taken
+abbrev pub refused : ℕ → View → View
+refused found v = record v { taken = Some (found - 1) }
+
+-- the exchange of the head behind what is known
+abbrev pub Posted : table.Step StoredEntry → Me → ℕ → Me → Type 0
+Posted st m found m' =
+    (m'.1 ≡ m.1)
+    × (found ≡ 0 → (m'.0 ≡ posted m.0) × (m.0.seat.known < top m.0.setting) × Legal m.0.setting.problem (posted m.0).list)
+    × (found ≢ 0 → m'.0 ≡ refused found m.0)

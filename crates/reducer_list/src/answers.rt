@@ -8,3 +8,10 @@ pub enum Claim {
     Claimed(u64),
     Later(u64),
 }
+
+/// What a publication gives: the place of the entry in the list; or the list is longer than the seat knows.
+#[derive(Clone, Copy, Debug, PartialEq, Eq)]
+pub enum Publish {
+    Published(u32),
+    Longer,
+}

@@ -5,10 +5,11 @@
 mod answers;
 mod board;
 mod open;
+mod publish;
 mod rule;
 mod seat;
 mod seats;
 
-pub use answers::Claim;
+pub use answers::{Claim, Publish};
 pub use board::SharedBoard;
 pub use seat::BoardSeat;

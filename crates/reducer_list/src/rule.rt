@@ -62,6 +62,33 @@ impl Play<Entry, Knowing> for Settles {
     ghost then = { Settled };
 }
 
+/// It is told that a chunk has room for what a stuck hand makes.
+pub(crate) struct Rooms;
+
+impl Play<Entry, Knowing> for Rooms {
+    ghost use Rattle.reducer_list.specs.Steps.{Roomy};
+
+    ghost then = { Roomy };
+}
+
+/// A word is stored in the own chunk.
+pub(crate) struct Puts;
+
+impl Play<Entry, Knowing> for Puts {
+    ghost use Rattle.reducer_list.specs.Steps.{Stored};
+
+    ghost then = { Stored };
+}
+
+/// The head behind what is known is tried.
+pub(crate) struct Posts;
+
+impl Play<Entry, Knowing> for Posts {
+    ghost use Rattle.reducer_list.specs.Steps.{Posted};
+
+    ghost then = { Posted };
+}
+
 /// A seat is made.
 pub(crate) struct Halves;
 

@@ -19,7 +19,7 @@ pub struct BoardSeat {
 }
 
 impl Model for BoardSeat {
-    ghost use Rattle.std.specs.Prelude.{◌≡◌, ◌+◌, ◌<◌, [], ◌∷◌, take, length};
+    ghost use Rattle.std.specs.Prelude.{◌≡◌, ◌+◌, ◌<◌, ◌≤◌, [], ◌∷◌, take, length};
     ghost use Rattle.run_core.specs.State.{highest};
     ghost use Rattle.reducer_list.specs.View.{Sitting, top};
 
@@ -30,7 +30,8 @@ impl Model for BoardSeat {
     ghost invariant = { λ s. (s.known ≡ s.seat.me.0.seat.known) × (s.seen ≡ s.seat.me.0.seat.seen)
         × (s.seat.me.0.chunks ≡ s.chunk ∷ take s.others s.rest) × (s.others < 16)
         × (length s.seat.me.0.chunks ≡ length s.seat.me.0.seat.numbers) × (s.seat.me.1 ≡ [])
-        × (highest s.seat.me.0.chunks < top s.seat.me.0.setting + s.seat.me.0.setting.workers) };
+        × (highest s.seat.me.0.chunks < top s.seat.me.0.setting + s.seat.me.0.setting.workers)
+        × (s.seat.me.0.seat.known ≤ top s.seat.me.0.setting) };
 }
 
 impl BoardSeat {

@@ -25,8 +25,8 @@ use Rattle.mora_law.proofs.Choice.{some_same, lead_some}
 use Rattle.rank_algebra.proofs.Remainder.{cut_nothing}
 use Rattle.mora_law.proofs.Existence.{step_advances}
 use Rattle.mora_law.specs.Items.{item_for}
-use Rattle.run_core.specs.Hand.{Hand, end_of}
-use Rattle.run_core.specs.State.{Seat, State, IsAt, count_of}
+use Rattle.run_core.specs.Hand.{Hand, end_of, draft_terms, hand_end, draft}
+use Rattle.run_core.specs.State.{Seat, State, IsAt, count_of, known_by}
 use Rattle.run_core.specs.Effects.{draft_by, shown, after_publish}
 use Rattle.run_core.specs.Makes.{CanPublish}
 use Rattle.run_core.specs.Sound.{IsHandSound, IsSound}
@@ -139,3 +139,32 @@ hand_room P word ticket known h ok s =
     let w = reduced_room R (ranks_are P ok) (basis_of known).member (take (length h.reads - 1) h.reads) start 0 (record { at = λ r l. absurd (omega arith) }) (omega arith)
     (λ j l m. ap (λ ds. (steps R (basis_of known).member start ds).end) (take-take j (length h.reads - 1) h.reads (omega (arith, m, size))) ∙ s.before j l (omega (arith, l, m, size))) in
     omega (arith, w, size)
+
+-- a run that is stuck has a reading
+some_reads : (R : Ranks) (entries : ℕ → Vector) (v : Vector) (ds : List Reading) → (steps R entries (begin v) ds).end ≡ Some Stuck → 0 < length ds
+some_reads R entries v [] e = absurd (cc)
+some_reads R entries v (d ∷ ds) e = omega arith
+
+-- a hand whose run is stuck has at most N readings, at most N terms, and at most N + 1 of both in all
+pub stuck_room : (P : Problem) (word ticket : ℕ) (known : List Entry) (h : Hand) → IsAdmissible P → IsHandSound P word ticket known h → end_of P known h.ticket h.reads ≡ Some Stuck →
+    (length h.reads ≤ count_of P) × (length (draft_terms P known h) ≤ count_of P) × (length h.reads + length (draft_terms P known h) ≤ count_of P + 1)
+unfolding end_of draft_terms
+stuck_room P word ticket known h ok s stuck =
+    let R : Ranks = ranks_of_problem P in
+    let v : Vector = start_of R (generators_of P) (basis_of known) (item_for P h.ticket) in
+    let start : Run = begin v in
+    let some = some_reads R (basis_of known).member v h.reads stuck in
+    let w = run_room R (ranks_are P ok) (basis_of known).member h.reads start 0 (record { at = λ r l. absurd (omega arith) }) (omega arith) some s.before stuck in
+    let few = terms_room R (monic R (steps R (basis_of known).member start h.reads).poly) (0 + length h.reads - 1) (monic_nothing R (steps R (basis_of known).member start h.reads).poly (0 + length h.reads - 1) w.1) (omega (arith, w.0)) in
+    (omega (arith, w.0), omega (arith, few), omega (arith, some, few))
+
+-- the same for a seat
+pub seat_room : (s : State) (i : ℕ) (v : Seat) → IsSound s → IsAt s i v → hand_end s.problem (known_by s v) v.hand ≡ Some Stuck →
+    (length (draft_by s v).reads ≤ count_of s.problem) × (length (draft_by s v).terms ≤ count_of s.problem) × (length (draft_by s v).reads + length (draft_by s v).terms ≤ count_of s.problem + 1)
+seat_room s i v ok at stuck = go v.hand (ok.seats i v at).hand stuck
+  where
+    go : (o : Option Hand) → ((h : Hand) → o ≡ Some h → IsHandSound s.problem s.corner s.ticket (known_by s v) h) → hand_end s.problem (known_by s v) o ≡ Some Stuck →
+        (length (draft s.problem (known_by s v) o).reads ≤ count_of s.problem) × (length (draft s.problem (known_by s v) o).terms ≤ count_of s.problem)
+        × (length (draft s.problem (known_by s v) o).reads + length (draft s.problem (known_by s v) o).terms ≤ count_of s.problem + 1)
+    go None each e = absurd (cc)
+    go (Some h) each e = stuck_room s.problem s.corner s.ticket (known_by s v) h ok.problem (each h refl) e

@@ -69,6 +69,14 @@ pub fn drafts_have_room()
         → (length (draft_by s v).reads + length (draft_by s v).terms ≤ count_of s.problem + 1) × (v.known < count_of s.problem) }
 {}
 
+/// What the run of a seat makes that is stuck has at most as many readings as there are monomials, at most as many terms, and at most one
+/// more of both in all, whatever others have published.
+pub fn stuck_hands_have_room()
+    ensures { (s : State) (i : ℕ) (v : Seat) → IsSound s → IsAt s i v → hand_end s.problem (known_by s v) v.hand ≡ Some Stuck
+        → (length (draft_by s v).reads ≤ count_of s.problem) × (length (draft_by s v).terms ≤ count_of s.problem)
+        × (length (draft_by s v).reads + length (draft_by s v).terms ≤ count_of s.problem + 1) }
+{}
+
 /// A hand has at most as many readings as there are monomials, and one more.
 pub fn hands_have_room()
     ensures { (s : State) (i : ℕ) (v : Seat) (h : Hand) → IsSound s → IsAt s i v → v.hand ≡ Some h → length h.reads ≤ count_of s.problem + 1 }

@@ -102,4 +102,5 @@ invariant_of-seat c =
       ap (λ (u : View). length u.chunks) e ∙ (let g : length (v.chunks ++ w.chunks) ≡ length (both v w).seat.numbers = omega arith in g) ∙ sym (ap (λ (u : View). length u.seat.numbers) e),
       c.load-seat-inside.ensures.2.0 ∙ ap (λ (m : Me). m.1) c.join_seat.ensures.2 ∙ i.5,
       last,
+      subst (λ (u : View). u.seat.known ≤ top u.setting) (sym e) (omega (arith, i.7, subst (λ (q : Setting). w.seat.known ≤ top q) same o.7)),
     )

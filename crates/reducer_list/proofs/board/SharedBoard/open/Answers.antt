@@ -1,4 +1,4 @@
-use Rattle.std.proofs.Common.{arith, sym, ap, ◌∙◌, ◌≡◌, ℕ, ◌+◌, ◌*◌, List, [], ◌∷◌, length, subst, set, length-set, ◌<◌}
+use Rattle.std.proofs.Common.{arith, sym, ap, ◌∙◌, ◌≡◌, ℕ, ◌+◌, ◌*◌, List, [], ◌∷◌, length, subst, set, length-set, ◌<◌, ◌≤◌}
 use Rattle.std.specs.Prelude.{replicate}
 use Rattle.std.proofs.lemmas.List.{length-replicate}
 use Rattle.local_order.specs.Shape.{count}
@@ -54,4 +54,5 @@ invariant_of-seat c =
       ap (λ (m : Me). length m.0.chunks) me ∙ sym (ap (λ (m : Me). length m.0.seat.numbers) me),
       ap (λ (m : Me). m.1) me,
       subst (λ (m : Me). highest m.0.chunks < top m.0.setting + m.0.setting.workers) (sym me) (let h = highest_range c.args.workers c.requires.some in omega (arith, h)),
+      subst (λ (m : Me). m.0.seat.known ≤ top m.0.setting) (sym me) (omega arith),
     )

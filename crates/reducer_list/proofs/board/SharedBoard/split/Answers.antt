@@ -1,4 +1,4 @@
-use Rattle.std.proofs.Common.{arith, sym, ap, ◌∙◌, ◌≡◌, ℕ, zero, suc, ◌<◌, List, ◌∷◌, length, take, subst, false, ◌+◌}
+use Rattle.std.proofs.Common.{arith, sym, ap, ◌∙◌, ◌≡◌, ℕ, zero, suc, ◌<◌, ◌≤◌, List, ◌∷◌, length, take, subst, false, ◌+◌}
 use Rattle.run_core.specs.State.{highest}
 use Rattle.reducer_list.specs.View.{Setting, View, Sitting, top, is_busy}
 use Rattle.reducer_list.specs.Steps.{Me, all_but_last, last_only}
@@ -44,6 +44,7 @@ invariant_of-seat c =
       ap (λ (m : Me). length m.0.chunks) me ∙ lengths.0 ∙ sym (ap (λ (m : Me). length m.0.seat.numbers) me),
       ap (λ (m : Me). m.1) me ∙ i.5,
       subst (λ (m : Me). highest m.0.chunks < top m.0.setting + m.0.setting.workers) (sym me) (let h = (highest_cut v.chunks).0 in let h' = i.6 in omega arith),
+      subst (λ (m : Me). m.0.seat.known ≤ top m.0.setting) (sym me) i.7,
     )
 
 pub invariant_of-result : goal.invariant_of-result
@@ -63,4 +64,5 @@ invariant_of-result c =
       ap (λ (m : Me). length m.0.chunks) me ∙ lengths.1 ∙ sym (ap (λ (m : Me). length m.0.seat.numbers) me),
       ap (λ (m : Me). m.1) me,
       subst (λ (m : Me). highest m.0.chunks < top m.0.setting + m.0.setting.workers) (sym me) (let h = (highest_cut v.chunks).1 in let h' = i.6 in omega arith),
+      subst (λ (m : Me). m.0.seat.known ≤ top m.0.setting) (sym me) i.7,
     )
