@@ -1,11 +1,11 @@
 -- A script is answered command by command. What was written of its certificate is the beginning of one that is due, since there is
 -- something to certify of each command that is left; so a call that stops has written a part of it.
-use Rattle.std.proofs.Common.{◌≡◌, ℕ, zero, suc, ◌+◌, ◌<◌, ◌≤◌, List, [], ◌∷◌, ◌++◌, length, take, drop, get_or, Bool, true, false, Option, Some, Result, Ok, Err, OnErr, codes, refl, sym, ◌∙◌, ap, subst, arith, add-one, length-append, length-take-le}
+use Rattle.std.proofs.Common.{◌≡◌, ℕ, zero, suc, ◌+◌, ◌<◌, ◌≤◌, List, [], ◌∷◌, ◌++◌, length, take, drop, get_or, Bool, true, false, Option, Some, Result, Ok, Err, codes, refl, sym, ◌∙◌, ap, subst, arith, length-append, length-take-le}
 use Rattle.std.specs.Prelude.{slice_get, All, IfOk, string_bytes}
 use Rattle.std.specs.Bool.{OnTrue, OnFalse}
 use Rattle.std.specs.List.{AllByRecursion, AllZip}
 use Rattle.std.specs.Io.KnownBytes.{Appends}
-use Rattle.std.proofs.KnownBytes.{Appends-nil, Appends-trans}
+use Rattle.std.proofs.KnownBytes.{Appends-trans}
 use Rattle.std.proofs.lemmas.Slice.Zip.{AllZip-long}
 use Rattle.std.proofs.Math.Seq.{take-append_seam}
 use Rattle.std.proofs.lemmas.List.{append-nil, take_all, take-append-drop}
@@ -25,17 +25,17 @@ use Rattle.cert_grammar.specs.Cert.{head_line, numbered, block_lines}
 use Rattle.cert_grammar.specs.declared.certified.Certified.{Certified}
 use Rattle.cert_grammar.specs.Certified.{IsCertified, block_of, certificate_text}
 use Rattle.cert_write.specs.declared.error.CertWriteError.{CertWriteError}
-use Rattle.cert_write.specs.declared.error.CertWriteError.TheVariants.{Failed, Memory}
+use Rattle.cert_write.specs.declared.error.CertWriteError.TheVariants.{Memory}
 use Rattle.cert_write.specs.Writes.{WritesOrStops}
-use Rattle.cert_write.proofs.Stopping.{all_of, stops_then, stops_within}
+use Rattle.cert_write.proofs.Stopping.{stops_then, stops_within}
 use Rattle.local_std.specs.declared.block.Blocks.{Blocks}
 use Rattle.local_std.specs.declared.outcome.Status.{Status}
 use Rattle.local_std.specs.declared.solved.Solved.{Solved}
 use Rattle.local_std.specs.Solved.{IsSolved, IsPlaceOf, claim_of}
 use Rattle.local_std.specs.Answer.{problem_of, IsAnswerOf, IsBlock, AreBlocks, IsCertificate, Certifies, Solves, AllFit, SomeIsSmall}
-use Rattle.local_std.specs.Answered.{AreDone, AreAnswered, Answers, status_of}
+use Rattle.local_std.specs.Answered.{AreAnswered, Answers, status_of}
 use Rattle.local_std.proofs.Prefixes.{first_and_next}
-use Rattle.local_std.proofs.Blocks.{IsFitting, IsSmall, none_answered, answered_more, all_done}
+use Rattle.local_std.proofs.Blocks.{IsFitting, IsSmall, all_done}
 use Rattle.local_std.proofs.Certificates.{certified_for, certifies, zip_append, all_append, begun_text, rest_text, certificate_split, begun_more, rest_last}
 use Rattle.local_std.proofs.Existence.{some_claim}
 use Rattle.local_std.proofs.Dues.{solves}
