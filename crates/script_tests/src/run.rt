@@ -39,6 +39,7 @@ pub(crate) fn run_with<R: Threads + Sync>(
 }
 
 /// The numbers, from 0, of the reads that fail, and of the writes of the answer and of the certificate that do.
+#[derive(Clone, Copy)]
 pub(crate) struct Failing<'a> {
     pub(crate) reads: &'a [u64],
     pub(crate) answer: &'a [u64],
