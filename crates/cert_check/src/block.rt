@@ -24,7 +24,7 @@ use crate::tickets::are_divided;
 use crate::verdict::{is_free_list, is_verdict};
 use cert_grammar::Certified;
 use local_order::Mono;
-use mono_rank::RankTable;
+use mono_rank::{RankError, RankTable};
 use sparse_poly::{Polys, Problem};
 use std::alloc::{AllocError, Global};
 use text_out::{Answer, Monos};
@@ -188,8 +188,10 @@ pub fn check_block(alloc: Global, block: &Certified) -> Result<Option<Fault>, Al
     ensures right { IfOk result (λ o. IfNone o (IsRight block.now.problem block.now.answer block.now.corner)) }
 {
     let problem = &block.problem;
-    let Ok(table) = RankTable::new(alloc, problem.n(), problem.d()) else {
-        return Err(AllocError);
+    let table = match RankTable::new(alloc, problem.n(), problem.d()) {
+        Ok(table) => table,
+        Err(RankError::Memory) => return Err(AllocError),
+        Err(RankError::TooManyMonomials(_)) => unreachable!(),
     };
     match check_entries(alloc, block, &table)? {
         Ok(passed) => check_answer(alloc, block, &table, passed),

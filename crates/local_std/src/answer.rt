@@ -14,7 +14,7 @@ ghost use Rattle.local_std.specs.Answer.{IsAnswerOf};
 
 use entry_code::Entries;
 use local_order::Mono;
-use mono_rank::RankTable;
+use mono_rank::{RankError, RankTable};
 use run_core::run_plain;
 use sparse_poly::Problem;
 use staircase::Stair;
@@ -60,15 +60,16 @@ fn answer_by(alloc: Global, problem: &Problem, entries: &Entries) -> Result<Answ
     }
 }
 
-/// The ranks of the problem's monomials.
+/// The ranks of the problem's monomials, of which there are never too many.
 fn table_of(alloc: Global, problem: &Problem) -> Result<RankTable, AllocError>
     ensures { IfOk result (λ t. t ≡ shape_of problem.now) }
 {
     let _field = problem.field();
-    let Ok(table) = RankTable::new(alloc, problem.n(), problem.d()) else {
-        return Err(AllocError);
-    };
-    Ok(table)
+    match RankTable::new(alloc, problem.n(), problem.d()) {
+        Ok(table) => Ok(table),
+        Err(RankError::Memory) => Err(AllocError),
+        Err(RankError::TooManyMonomials(_)) => unreachable!(),
+    }
 }
 
 /// The monomials of some ranks.
