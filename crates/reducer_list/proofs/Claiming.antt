@@ -50,6 +50,7 @@ module _ (law : Law) (p : Setting) (slots id : ℕ) (me : Me) (is : me.0.setting
         tickets_is p.problem (top p),
       ))
 
+-- the exchange of the ticket number keeps the rule and tells the view
 pub claims : Law → (p : Setting) (slots id : ℕ) (me : Me) → me.0.setting ≡ p → is_busy me.0 ≡ false → length me.0.seat.numbers ≡ 1 → me.0.seat.seen < total (length p.problem.gens) me.0.seat.known
     → Allows (Kept p) slots id me 1 (λ n. either (n == me.0.seat.seen) (me.0.seat.seen + 1) n) (Claimed (step slots 1 me.0.seat.seen (me.0.seat.seen + 1) none) me)
 claims law p slots id me is shut one below s k _ at _ = dite (ℕ_discrete (get_or s.words 1 0) me.0.seat.seen)

@@ -40,6 +40,7 @@ hand_above : (word : ℕ) (o : Option Hand) → ((h : Hand) → o ≡ Some h →
 hand_above word None each = tt
 hand_above word (Some h) each = each h refl
 
+-- the lessening of the corner word keeps the rule and tells the view
 pub corners : Law → (p : Setting) (slots id : ℕ) (me : Me) (own : ℕ) → me.0.setting ≡ p → me.0.seat.numbers ≢ [] → is_busy me.0 ≡ true → own ≡ corner me.0.setting.problem me.0.list
     → Allows (Kept p) slots id me 0 (λ n. min n own) (Cornered (step slots 0 own 0 none) me)
 corners law p slots id me own is full busy mine s k _ at _ =

@@ -45,8 +45,6 @@ below [] i e h = absurd (some-ne-none e (sym h))
 below (x ∷ xs) zero e h = omega arith
 below (x ∷ xs) (suc i) e h = let r = below xs i e h in omega arith
 
--- a step on a word of a body, by a seat that stays the same seat with the same chunks
-
 -- a step that changes no word, by a seat that stays the same seat with the same chunks
 pub kept_view : (p : Setting) (s : Words) (k : Kept p s) (id : ℕ) (v w : View) (new : List ℕ) → new ≡ s.words → get_elem? s.views id ≡ some v → w.seat ≡ v.seat → w.chunks ≡ v.chunks → Fits p k.entries k.heads s.words w
     → Kept p (record { words = new; homes = s.homes; views = set s.views id w })

@@ -47,10 +47,12 @@ both_begin v w h = go (nat_le w.seat.known v.seat.known) h
 abbrev pub LastLaw : Type 0
 LastLaw = (s : State) (i : ℕ) (v : Seat) → IsSound s → IsAt s i v → HasAll s v → v.idle ≡ true → IsLast s v
 
+-- two lists in one begin as the first does
 head_of_both : (xs ys : List ℕ) (c : ℕ) (cs : List ℕ) → xs ≢ [] → xs ++ ys ≡ c ∷ cs → (ds : List ℕ) × (xs ≡ c ∷ ds)
 head_of_both [] ys c cs full e = absurd (full refl)
 head_of_both (x ∷ xs) ys c cs full e = (xs, (let is : x ≡ c = ap first_chunk e in ap (λ (n : ℕ). n ∷ xs) is))
 
+-- the joining of a seat keeps the rule
 pub joins : Law → (p : Setting) (id : ℕ) (v : View) (other : ℕ) (w : View) → is_busy v ≡ false → is_busy w ≡ false → v.seat.numbers ≢ [] → w.seat.numbers ≢ [] → Joins (Kept p) id v other w (both v w) spent_view
 joins law p id v other w shut shut' full full' s k at ne there' =
     let there : get_elem? s.views other ≡ some w = sym (set_else s.views id other (both v w) ne) ∙ there' in

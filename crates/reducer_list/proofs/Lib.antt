@@ -8,3 +8,6 @@ pub mod Seated
 pub mod Openings
 pub mod Storing
 pub mod Publishing
+pub mod Spellable
+pub mod Looking
+pub mod Learning

@@ -1,19 +1,19 @@
 -- What each step of the board tells its caller. Ours.
-use Rattle.std.specs.Prelude.{◌≡◌, ◌≢◌, ℕ, suc, ◌+◌, ◌-◌, ◌<◌, ◌≤◌, List, [], ◌∷◌, ◌++◌, length, take, sum_by, Some, None, true, min, nat_le, if◌then◌else◌, ⊤}
+use Rattle.std.specs.Prelude.{◌≡◌, ◌≢◌, ℕ, suc, ◌+◌, ◌-◌, ◌<◌, ◌≤◌, List, [], ◌∷◌, ◌++◌, length, take, sum_by, Some, None, true, min, nat_le, get_or, Option, if◌then◌else◌, ⊤}
 use Rattle.atomic_table.specs.Table as table
 use Rattle.entry_code.specs.declared.reading.Reading.{Reading}
 use Rattle.entry_code.specs.declared.entry.Entry.{Entry as StoredEntry}
-use Rattle.entry_code.specs.Entry.{Entry}
-use Rattle.entry_code.specs.Words.{words_of}
+use Rattle.entry_code.specs.Entry.{Entry, entry_at}
+use Rattle.entry_code.specs.Words.{words_of, IsSpellable}
 use Rattle.mora_law.specs.Legal.{Legal}
 use Rattle.mora_law.specs.Tickets.{total}
 use Rattle.mora_law.specs.declared.step_end.StepEnd.TheVariants.{Stuck}
 use Rattle.mora_law.specs.Run.{last_known}
 use Rattle.run_core.specs.Hand.{draft, marked, hand_end, reads_of, read}
 use Rattle.run_core.specs.State.{Seat, times, steps_of}
-use Rattle.run_core.specs.Effects.{won, later, kept, given, joined, nobody}
+use Rattle.run_core.specs.Effects.{won, later, learnt, rested, kept, given, joined, nobody}
 use Rattle.run_core.specs.Idle.{SettlesAll}
-use Rattle.reducer_list.specs.View.{Setting, View, top, Begins}
+use Rattle.reducer_list.specs.View.{Setting, BodyReading, View, top, is_busy, Begins}
 use Rattle.reducer_list.specs.Rule.{body}
 
 -- a seat's view, and the slots that it has, which are none
@@ -166,3 +166,90 @@ Posted st m found m' =
     (m'.1 ≡ m.1)
     × (found ≡ 0 → (m'.0 ≡ posted m.0) × (m.0.seat.known < top m.0.setting) × Legal m.0.setting.problem (posted m.0).list)
     × (found ≢ 0 → m'.0 ≡ refused found m.0)
+
+-- the seat of the machine rests where it has no open hand and has seen all tickets of what it knows
+abbrev pub rests_if : View → Seat
+rests_if v = if is_busy v then v.seat else (if nat_le (total (length v.setting.problem.gens) v.seat.known) v.seat.seen then rested v.seat else v.seat)
+
+-- the head behind what is known was empty
+abbrev pub looked : View → View
+looked v = record v { seat = rests_if v; looks = suc v.looks }
+
+-- it names a chunk, whose words are to be read
+abbrev pub found_taken : ℕ → View → View
+found_taken found v = record v {
+  taken = Some (found - 1);
+  reading = Some (record { place = v.seat.known; chunk = found - 1; words = [] });
+  looks = suc v.looks;
+}
+
+-- the load of the head behind what is known
+abbrev pub Looked : table.Step StoredEntry → Me → ℕ → Me → Type 0
+Looked st m found m' =
+    (m'.1 ≡ m.1)
+    × (found ≡ 0 → (m.0.taken ≡ None) × (m'.0 ≡ looked m.0) × LastIdle m'.0
+    × (total (length m.0.setting.problem.gens) m.0.seat.known ≤ m.0.seat.seen → m.0.seat.seen ≡ total (length m.0.setting.problem.gens) m.0.seat.known))
+    × (found ≢ 0 → (m'.0 ≡ found_taken found m.0) × (found ≤ top m.0.setting + m.0.setting.workers) × (m.0.seat.known < top m.0.setting))
+
+-- the words of the known entry at a place are to be read
+abbrev pub sought : ℕ → ℕ → View → View
+sought place found v = record v { reading = Some (record { place = place; chunk = found - 1; words = [] }) }
+
+-- the load of the head of an entry that is known
+abbrev pub Sought : table.Step StoredEntry → Me → ℕ → Me → Type 0
+Sought st m found m' = (m'.1 ≡ m.1) × (m'.0 ≡ sought (st.word - 2) found m.0) × (0 < found) × (found ≤ top m.0.setting + m.0.setting.workers)
+
+-- one word more of what is being read
+abbrev pub read_more : ℕ → Option BodyReading → Option BodyReading
+read_more x None = None
+read_more x (Some r) = Some (record r { words = r.words ++ x ∷ [] })
+
+-- the numbers of readings and of terms, once they are read
+abbrev pub HasCounted : Setting → Option BodyReading → Type 0
+HasCounted p None = ⊤
+HasCounted p (Some r) = length r.words ≡ 3 → (1 ≤ get_or r.words 1 0) × (1 ≤ get_or r.words 2 0) × (get_or r.words 1 0 + get_or r.words 2 0 ≤ top p + 1)
+
+-- the load of a word of a body
+abbrev pub ReadWord : table.Step StoredEntry → Me → ℕ → Me → Type 0
+ReadWord st m found m' = (m'.1 ≡ m.1) × (m'.0 ≡ record m.0 { reading = read_more found m.0.reading }) × HasCounted m.0.setting m'.0.reading
+
+-- the words that were read
+abbrev pub words_read : Option BodyReading → List ℕ
+words_read None = []
+words_read (Some r) = r.words
+
+-- the place of the entry that is being read
+abbrev pub place_read : Option BodyReading → ℕ
+place_read None = 0
+place_read (Some r) = r.place
+
+-- these are the words of the entry, and they can be read back
+abbrev pub IsEntryOf : Setting → List ℕ → Entry → Type 0
+IsEntryOf p words e = (words_of e ≡ words) × IsSpellable p.problem.p (top p) e
+
+-- the seat knows one entry more
+abbrev pub learnt_view : Entry → View → View
+learnt_view e v = record v { list = v.list ++ e ∷ []; seat = learnt v.seat; taken = None; reading = None }
+
+-- the load of the last word of the entry behind what is known
+abbrev pub LearntWord : table.Step StoredEntry → Me → ℕ → Me → Type 0
+LearntWord st m found m' =
+    (m'.1 ≡ m.1)
+    × ((e : Entry) × IsEntryOf m.0.setting (words_read m.0.reading ++ found ∷ []) e × (m'.0 ≡ learnt_view e m.0) × Legal m.0.setting.problem (learnt_view e m.0).list)
+
+-- nothing is being read
+abbrev pub done_reading : View → View
+done_reading v = record v { reading = None }
+
+-- the load of the last word of an entry that is known
+abbrev pub RecalledWord : table.Step StoredEntry → Me → ℕ → Me → Type 0
+RecalledWord st m found m' =
+    (m'.1 ≡ m.1) × (m'.0 ≡ done_reading m.0) × IsEntryOf m.0.setting (words_read m.0.reading ++ found ∷ []) (entry_at m.0.list (place_read m.0.reading))
+
+-- these words of the chunk are read so far
+abbrev pub reads_on : ℕ → List ℕ → View → View
+reads_on chunk words v = record v { reading = Some (record { place = place_read v.reading; chunk = chunk; words = words }) }
+
+-- how many words there are but the last, told by the second and the third of them
+abbrev pub AreAllButLast : Setting → ℕ → List ℕ → Type 0
+AreAllButLast p last words = (2 < last) × (last ≡ 2 + get_or words 1 0 + get_or words 2 0) × (last < top p + 4)

@@ -7,6 +7,10 @@ use Rattle.run_core.specs.Hand.{has_open}
 use Rattle.run_core.specs.State.{Seat, count_of, fresh}
 use Rattle.std.specs.List.{range_with_len}
 
+-- the most workers
+abbrev pub max_workers : ℕ
+max_workers = 16
+
 -- the problem, and the number of workers
 pub record Setting : Type 0 where
   pub problem : Problem

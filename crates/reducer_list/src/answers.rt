@@ -15,3 +15,10 @@ pub enum Publish {
     Published(u32),
     Longer,
 }
+
+/// What a look gives: no entry stands behind those that the seat knows; or the place of the one that it now knows.
+#[derive(Clone, Copy, Debug, PartialEq, Eq)]
+pub enum Look {
+    Nothing,
+    Learnt(u32),
+}

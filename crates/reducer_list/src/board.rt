@@ -37,7 +37,7 @@ impl Model for SharedBoard {
     ghost use Rattle.local_order.specs.Limits.{max_monomials};
     ghost use Rattle.sparse_poly.specs.Shape.{shape_of};
     ghost use Rattle.run_core.specs.State.{count_of};
-    ghost use Rattle.reducer_list.specs.View.{Board};
+    ghost use Rattle.reducer_list.specs.View.{Board, max_workers};
     ghost use Rattle.reducer_list.specs.Rule.{table_words};
 
     ghost Value = { Board };
@@ -45,7 +45,7 @@ impl Model for SharedBoard {
     ghost view = { λ b. record { table = b.table.shared.table_id; setting = record { problem = b.problem; workers = b.workers } } };
 
     ghost invariant = { λ b. (b.table.shared.key.0.value ≡ b.problem) × (b.table.shared.key.1 ≡ b.workers) × (b.ranks ≡ shape_of b.problem)
-        × (b.generators ≡ length b.problem.gens) × (b.top ≡ count_of b.problem) × (b.top ≤ max_monomials) × (b.workers ≤ 16)
+        × (b.generators ≡ length b.problem.gens) × (b.top ≡ count_of b.problem) × (b.top ≤ max_monomials) × (b.workers ≤ max_workers)
         × (b.table.shared.table_id.words ≡ table_words (record { problem = b.problem; workers = b.workers })) };
 }
 

@@ -4,12 +4,13 @@
 
 mod answers;
 mod board;
+mod look;
 mod open;
 mod publish;
 mod rule;
 mod seat;
 mod seats;
 
-pub use answers::{Claim, Publish};
+pub use answers::{Claim, Look, Publish};
 pub use board::SharedBoard;
-pub use seat::BoardSeat;
+pub use seat::{BoardSeat, MAX_WORKERS};

@@ -2,7 +2,7 @@
 
 ghost use Rattle.std.specs.Prelude.{◌≡◌, ◌≤◌, IfOk, replicate};
 ghost use Rattle.sparse_poly.specs.Shape.{shape_of};
-ghost use Rattle.reducer_list.specs.View.{one_seat};
+ghost use Rattle.reducer_list.specs.View.{max_workers, one_seat};
 ghost use Rattle.reducer_list.specs.Calls.{IsAt};
 
 use crate::board::SharedBoard;
@@ -42,7 +42,7 @@ impl SharedBoard {
         workers: u32,
     ) -> Result<(SharedBoard, BoardSeat), AllocError>
         requires some { 1 ≤ workers }
-        requires few { workers ≤ 16 }
+        requires few { workers ≤ max_workers }
         ensures setting { IfOk result (λ r. r.0.setting ≡ record { problem = problem.now; workers = workers }) }
         ensures board { IfOk result (λ r. IsAt r.0 r.1) }
         ensures seat { IfOk result (λ r. r.1.view ≡ one_seat (record { problem = problem.now; workers = workers })) }

@@ -89,6 +89,51 @@ impl Play<Entry, Knowing> for Posts {
     ghost then = { Posted };
 }
 
+/// The head behind what is known is loaded.
+pub(crate) struct Looks;
+
+impl Play<Entry, Knowing> for Looks {
+    ghost use Rattle.reducer_list.specs.Steps.{Looked};
+
+    ghost then = { Looked };
+}
+
+/// The head of an entry that is known is loaded.
+pub(crate) struct Seeks;
+
+impl Play<Entry, Knowing> for Seeks {
+    ghost use Rattle.reducer_list.specs.Steps.{Sought};
+
+    ghost then = { Sought };
+}
+
+/// A word of a body is loaded.
+pub(crate) struct Takes;
+
+impl Play<Entry, Knowing> for Takes {
+    ghost use Rattle.reducer_list.specs.Steps.{ReadWord};
+
+    ghost then = { ReadWord };
+}
+
+/// The last word of the entry behind what is known is loaded.
+pub(crate) struct Learns;
+
+impl Play<Entry, Knowing> for Learns {
+    ghost use Rattle.reducer_list.specs.Steps.{LearntWord};
+
+    ghost then = { LearntWord };
+}
+
+/// The last word of an entry that is known is loaded.
+pub(crate) struct Recalls;
+
+impl Play<Entry, Knowing> for Recalls {
+    ghost use Rattle.reducer_list.specs.Steps.{RecalledWord};
+
+    ghost then = { RecalledWord };
+}
+
 /// A seat is made.
 pub(crate) struct Halves;
 

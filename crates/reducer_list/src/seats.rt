@@ -1,18 +1,18 @@
 //! How seats are made and joined.
 
 ghost use Rattle.std.specs.Prelude.{◌≡◌, ◌+◌, ◌<◌, ◌≤◌, ◌∷◌, ◌++◌, take, false, length};
-ghost use Rattle.reducer_list.specs.View.{is_busy, Begins};
+ghost use Rattle.reducer_list.specs.View.{is_busy, max_workers, Begins};
 ghost use Rattle.reducer_list.specs.Steps.{left_half, right_half, both, LastIdle};
 ghost use Rattle.reducer_list.specs.Calls.{IsAt};
 
 use crate::board::SharedBoard;
 use crate::rule::{Both, Halves, Settles};
-use crate::seat::BoardSeat;
+use crate::seat::{BoardSeat, MAX_WORKERS};
 use run_core::laws;
 
 /// Puts a chunk and so many more behind the first `n`.
-fn append(rest: &mut [u32; 16], n: usize, chunk: u32, more: &[u32; 16], m: usize)
-    requires { n + 1 + m ≤ 16 }
+fn append(rest: &mut [u32; MAX_WORKERS], n: usize, chunk: u32, more: &[u32; MAX_WORKERS], m: usize)
+    requires { n + 1 + m ≤ max_workers }
     ensures { take (n + 1 + m) rest.new ≡ take n rest.old ++ chunk ∷ take m more.now }
 {
     rest[n] = chunk;
@@ -42,7 +42,7 @@ impl SharedBoard {
             seen: seat.seen,
             chunk,
             others: 0,
-            rest: [0; 16],
+            rest: [0; MAX_WORKERS],
         }
     }
 
