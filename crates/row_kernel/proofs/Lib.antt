@@ -1,0 +1,3 @@
+mod Reduction
+mod Vectors
+mod Steps
