@@ -2,6 +2,7 @@ pub mod Places
 pub mod Ends
 pub mod Hands
 pub mod Numbers
+pub mod Lists
 pub mod Seats
 pub mod Claims
 pub mod Corners
@@ -26,3 +27,5 @@ pub mod Working
 pub mod Publishing
 pub mod Claimed
 pub mod Turns
+pub mod Replays
+pub mod Machines

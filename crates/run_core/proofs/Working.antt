@@ -42,7 +42,7 @@ corners_low R B w (e ∷ ds) h zero d l = h.0
 corners_low R B w (e ∷ ds) h (suc k) d l = corners_low R B w ds h.2 k d (omega (arith, l))
 
 -- a run that isn't stuck keeps all its readings when one more follows
-recorded_all : (e : Option StepEnd) (ds : List Reading) → e ≢ Some Stuck → recorded e ds ≡ ds
+pub recorded_all : (e : Option StepEnd) (ds : List Reading) → e ≢ Some Stuck → recorded e ds ≡ ds
 recorded_all None ds n = refl
 recorded_all (Some Zero) ds n = refl
 recorded_all (Some Reduced) ds n = refl

@@ -2,6 +2,7 @@ pub mod Hand
 pub mod State
 pub mod Effects
 pub mod Sound
+pub mod SeatCode
 pub mod Makes
 pub mod Schedule
 pub mod Idle
@@ -10,4 +11,5 @@ pub mod Plain
 pub mod Example
 pub mod HandCode
 pub mod Work
+pub mod Replay
 pub mod Finished

@@ -74,7 +74,7 @@ fn copy_terms(alloc: Global, from: &Terms) -> Result<Terms, AllocError>
 }
 
 /// A copy of the entry.
-fn copy(alloc: Global, entry: &Entry) -> Result<Entry, AllocError>
+pub(crate) fn copy(alloc: Global, entry: &Entry) -> Result<Entry, AllocError>
     ensures { IfOk result (λ e. entry_of e ≡ entry_of entry.now) }
 {
     let reads = copy_reads(alloc, &entry.reads)?;

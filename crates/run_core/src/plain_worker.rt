@@ -1,6 +1,7 @@
 //! What the one worker has of its own.
 
 ghost use Rattle.std.specs.Prelude.{◌≡◌, ◌≢◌, ◌<◌, ◌≤◌, ◌+◌, ◌-◌, ◌^◌, suc, [], take, length, true, false, Some, Ok, IsTrue, IfOk, OnOk};
+ghost use Rattle.mora_form.specs.State.{HasRun};
 ghost use Rattle.mora_law.specs.declared.step_end.StepEnd.TheVariants.{Reduced, Stuck};
 ghost use Rattle.mora_law.specs.Legal.{Legal, IsItemOf};
 ghost use Rattle.run_core.specs.Hand.{is_skipped};
@@ -13,7 +14,7 @@ use crate::plain_board::PlainBoard;
 use corner_word::Cover;
 use entry_code::{Entries, Item, Reading};
 use local_order::Mono;
-use mono_rank::RankTable;
+use mono_rank::{RankError, RankTable};
 use mora_form::Mora;
 use mora_law::StepEnd;
 use pair_queue::{item_of, skip};
@@ -37,8 +38,12 @@ impl PlainWorker {
         ensures holds { IfOk result (Holds problem.now []) }
         ensures none { IfOk result (λ w. w.reductions ≡ 0) }
     {
-        let Ok(table) = RankTable::new(alloc, problem.n(), problem.d()) else {
-            return Err(AllocError);
+        // A problem is within its limits, which its field is lent with.
+        let _field = problem.field();
+        let table = match RankTable::new(alloc, problem.n(), problem.d()) {
+            Ok(table) => table,
+            Err(RankError::Memory) => return Err(AllocError),
+            Err(RankError::TooManyMonomials(_)) => unreachable!(),
         };
         let mora = Mora::open(alloc, &table, *problem.field())?;
         let cover = Cover::new(alloc, &table)?;
@@ -62,6 +67,8 @@ impl PlainWorker {
         requires legal { Legal problem.now entries.now }
         requires holds { Holds problem.now (take number entries.now) self.old }
         ensures holds { OnOk result (Holds problem.now (take (suc number) entries.now) self.new) }
+        ensures run { OnOk result (HasRun problem.now (take number entries.now) self.old.mora → HasRun problem.now (take (suc number) entries.now) self.new.mora) }
+        ensures mora { self.new.mora ≡ record self.old.mora { known = self.new.mora.known } }
         ensures count { self.new.reductions ≡ self.old.reductions }
     {
         let _problem = problem.n();

@@ -8,7 +8,7 @@ use Rattle.entry_code.specs.Entry.{Entry, entry_of, no_entry}
 use Rattle.mora_law.specs.Ring.{numbering_of}
 use Rattle.mora_law.specs.Entries.{lead_rank}
 use Rattle.mora_law.proofs.Ring.{problem_is_admissible}
-use Rattle.mora_form.specs.State.{AreMonicTerms, IsOver}
+use Rattle.mora_form.specs.State.{AreMonicTerms, IsOver, HasRun}
 use Rattle.mora_form.proofs.Learning.{term_good}
 use Rattle.mora_form.proofs.Runs.{first_term}
 use Rattle.corner_word.specs.Marks.{IsCoverOf}
@@ -65,3 +65,13 @@ returns-clause-holds c =
     let w : PlainWorker = record { table = c.args.self.now.table; mora = c.learn.new.self; cover = c.add.new.self; leads = c.push.new.self; reductions = c.args.self.now.reductions } in
     subst (λ l. Holds P l w) (sym more) (learnt_one P known e c.args.self.now w h refl over (c.learn.ensures.knows known h.knows)
     (c.in_ok-push.ensures.items ∙ ap (λ m. c.args.self.now.leads.items ++ m ∷ []) monomial) c.add.ensures.shape (subst (λ k. IsCoverOf (map (λ (x : Entry). lead_rank x.terms) known ++ k ∷ []) c.add.new.self) lead (c.add.ensures.leads _ h.cover)))
+
+pub returns-clause-run : goal.returns-clause-run
+returns-clause-run c = λ run.
+    let P = c.args.problem.now in
+    let known : List Entry = take c.args.number c.args.entries.now in
+    let e : Entry = entry_of c.get-entry.result.now in
+    let more : take (suc c.args.number) c.args.entries.now ≡ known ++ e ∷ [] =
+    (let z : c.args.number + 1 ≡ suc c.args.number = omega arith in ap (λ k. take k c.args.entries.now) (sym z))
+    ∙ take_more c.args.entries.now c.args.number no_entry c.requires.next ∙ ap (λ x. known ++ x ∷ []) (get_or_from_slice_get c.args.entries.now c.args.number e no_entry c.get-entry.ensures) in
+    subst (λ l. HasRun P l c.learn.new.self) (sym more) (c.learn.ensures.run P known run)
