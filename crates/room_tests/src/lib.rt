@@ -11,6 +11,8 @@ mod corners;
 #[cfg(test)]
 mod entries;
 #[cfg(test)]
+mod lanes;
+#[cfg(test)]
 mod monomials;
 #[cfg(test)]
 mod numbers;

@@ -2,6 +2,7 @@
 
 ghost use Rattle.std.specs.Prelude.{◌≡◌, ℕ, ◌+◌, ◌-◌, ◌*◌, ◌/◌, ◌%◌, ◌^◌, ◌<◌, ◌≤◌, length, slice_index};
 
+use prime_field::Field;
 use std::simd::prelude::*;
 
 /// How many residues are changed at once.
@@ -12,7 +13,7 @@ pub(crate) const LANES: usize = 8;
 /// The reduction is Barrett's for a factor that is known beforehand (Shoup's form): where `quotient` is floor(value * 2^32 / p), the product
 /// `value * y` is at least `floor(quotient * y / 2^32) * p`, and less than twice p more: with e the remainder of `value * 2^32`, below p, the rest
 /// times 2^32 is less than `p * 2^32 + e * y`, and `y < 2^32`. So a lane costs three products of 32 bits to 64, a shift and one subtraction that is
-/// kept where it doesn't wrap, and only [`Factor::of`] divides. Montgomery's form would cost as much, and not take p = 2;
+/// kept where it doesn't wrap, and only [`Factor::opposite`] divides. Montgomery's form would cost as much, and not take p = 2;
 /// by the table's greatest prime, 2^31 - 1, twice p is still below 2^32, so that from there on 32 bits suffice.
 #[derive(Clone, Copy, Drop)]
 pub(crate) struct Factor {
@@ -22,13 +23,17 @@ pub(crate) struct Factor {
 }
 
 impl Factor {
-    /// The factor, with its quotient.
-    pub(crate) fn of(p: u32, value: u32) -> Factor
-        requires { value < p }
-        ensures p { result.p ≡ p }
-        ensures value { result.value ≡ value }
-        ensures quotient { result.quotient ≡ value * 2 ^ 32 / p }
+    /// The factor by which to multiply a residue, and to add the product, where `c` times the residue is to be subtracted.
+    pub(crate) fn opposite(field: &Field, c: u32) -> Factor
+        requires { c < field.now }
+        ensures prime { result.p ≡ field.now }
+        ensures small { result.p < 2 ^ 31 }
+        ensures value { result.value ≡ (field.now - c) % field.now }
+        ensures residue { result.value < field.now }
+        ensures quotient { result.quotient ≡ result.value * 2 ^ 32 / field.now }
     {
+        let p = field.prime();
+        let value = field.neg(c);
         let quotient = ((u64::from(value) << 32) / u64::from(p)) as u32;
         Factor { p, value, quotient }
     }

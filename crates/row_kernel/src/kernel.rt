@@ -16,7 +16,7 @@ pub fn update(field: &Field, out: &mut [u32], c: u32, other: &[u32])
     requires residue { c < field.now }
     ensures { IsDifference field.now c out.old other.now out.new }
 {
-    let factor = Factor::of(field.prime(), field.neg(c));
+    let factor = Factor::opposite(field, c);
     let mut k = 0;
     while out.len() - k >= LANES {
         let products = factor.times(u32x8::from_slice(&other[k..]));

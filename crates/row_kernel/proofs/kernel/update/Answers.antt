@@ -9,7 +9,7 @@ sums-lanes-requires-clause-a_residues c j l =
     let k = c.loop-out.k in
     let out = c.loop-out.out in
     let at : get_or (chunk k 8 out) j 0 ≡ get_or out (k + j) 0 = get_or-chunk k 8 out j 0 l in
-    omega (arith, at, c.loop-out.invariant.1.residues (k + j) (omega arith), c.of-factor.ensures.p, c.prime.ensures.value)
+    omega (arith, at, c.loop-out.invariant.1.residues (k + j) (omega arith), c.opposite-factor.ensures.prime)
 
 pub loop-out-preserved : goal.loop-out-preserved
 loop-out-preserved c =
@@ -18,9 +18,9 @@ loop-out-preserved c =
     let k = c.loop-out.k in
     let out = c.loop-out.out in
     let g = c.args.other.now in
-    let e = c.of-factor.result.value in
-    let prime : c.of-factor.result.p ≡ p = c.of-factor.ensures.p ∙ c.prime.ensures.value in
-    let factor : e ≡ (p - x) % p = c.of-factor.ensures.value ∙ c.neg.ensures.value in (
+    let e = c.opposite-factor.result.value in
+    let prime : c.opposite-factor.result.p ≡ p = c.opposite-factor.ensures.prime in
+    let factor : e ≡ (p - x) % p = c.opposite-factor.ensures.value in (
       omega (arith, c.loop-out.invariant.1.full),
       done_stored p x k g c.args.out.now out c.sums-lanes.result (omega (arith, c.requires.residue)) c.loop-out.invariant.1 (record {
         eight = c.sums-lanes.ensures.full;
@@ -39,8 +39,8 @@ loop-out-preserved c =
 pub loop-k-preserved : goal.loop-k-preserved
 loop-k-preserved c = (
   omega (arith, c.loop-k.invariant.1.full),
-  done_set c.args.field.now c.args.c c.loop-k.k c.args.other.now c.args.out.now c.loop-k.out c.of-factor.result.value c.add_product.result
-      c.loop-k.invariant.1 c.loop-k-test.true c.add_product.ensures.residue (c.of-factor.ensures.value ∙ c.neg.ensures.value) c.add_product.ensures.value,
+  done_set c.args.field.now c.args.c c.loop-k.k c.args.other.now c.args.out.now c.loop-k.out c.opposite-factor.result.value c.add_product.result
+      c.loop-k.invariant.1 (omega (arith, c.loop-k.invariant.1.full, c.loop-k-test.true)) c.add_product.ensures.residue (c.opposite-factor.ensures.value) c.add_product.ensures.value,
 )
 
 pub returns : goal.returns
