@@ -1,4 +1,5 @@
 pub mod Residues
+pub mod Walks
 pub mod Multiples
 mod Runs
 pub mod Polynomials
@@ -9,3 +10,4 @@ pub mod Cuts
 pub mod RowPolynomials
 pub mod TermMultiples
 pub mod Vectors
+pub mod Shifts

@@ -15,7 +15,7 @@ use Rattle.entry_code.specs.declared.term.Term.{Term}
 use Rattle.entry_code.specs.Terms.{vector_of_terms, HasRisingRanks}
 use Rattle.trunc_row.specs.Rows.{IsRowOfTerms}
 use Rattle.trunc_row.proofs.Residues.{row_mod, row_set, less_step, less_none}
-use Rattle.trunc_row.proofs.Multiples.{same_factor, later_degree}
+use Rattle.trunc_row.proofs.Walks.{same_factor, later_degree}
 use Rattle.trunc_row.proofs.TermRows.{coef-none, coef-own, coef-other}
 
 -- the multiple of the first i terms is subtracted

@@ -1,11 +1,11 @@
 //! The loops over the residues of rows.
 
-ghost use Rattle.std.specs.Prelude.{◌≡◌, ℕ, List, ◌+◌, ◌<◌, ◌≤◌, length, All};
+ghost use Rattle.std.specs.Prelude.{◌≡◌, ℕ, List, ◌+◌, ◌<◌, ◌≤◌, length, All, slice_index};
 ghost use Rattle.local_order.specs.Shape.{count};
 ghost use Rattle.sparse_poly.specs.Poly.{HasResidues, coef};
 ghost use Rattle.rank_algebra.specs.Rows.{IsRow, IsCutAt, IsScaled, Subtracts};
 ghost use Rattle.mono_rank.specs.Rows.{SubtractsMultiple, IsRowOf};
-ghost use Rattle.trunc_row.specs.Rows.{SubtractsRun, IsRowOfTerms};
+ghost use Rattle.trunc_row.specs.Rows.{IsMultiple, SubtractsRun, IsRowOfTerms};
 ghost use Rattle.entry_code.specs.Terms.{HasRisingRanks};
 
 use entry_code::Terms;
@@ -150,6 +150,41 @@ pub(crate) fn subtract_shifted(
             // later monomials have no lesser degree, so their products are beyond the table's too
             rank = count;
         }
+    }
+}
+
+/// Copies `count` residues of another row, from place `from` on, to as many places from `to` on.
+fn copy_run(row: &mut [u32], other: &[u32], from: usize, to: usize, count: usize)
+    requires from { from + count ≤ length other.now }
+    requires to { to + count ≤ length row.old }
+    ensures full { length row.new ≡ length row.old }
+    ensures inside { (k : ℕ) → k < count → slice_index row.new (to + k) ≡ slice_index other.now (from + k) }
+    ensures before { (j : ℕ) → j < to → slice_index row.new j ≡ slice_index row.old j }
+    ensures behind { (j : ℕ) → to + count ≤ j → slice_index row.new j ≡ slice_index row.old j }
+{
+    row[to..to + count].copy_from_slice(&other[from..from + count]);
+}
+
+/// Becomes the multiple of another row by the monomial of rank `shift`, cut beyond the table's degree.
+///
+/// Ranks come in runs, whose products follow each other as they do, so a run is copied whole to where the first of its products is.
+pub(crate) fn put_shifted(row: &mut [u32], table: &RankTable, shift: u32, other: &[u32])
+    requires own { length row.old ≡ count table.now }
+    requires other { length other.now ≡ count table.now }
+    requires shift { shift < count table.now }
+    ensures { IsMultiple table.now shift other.now row.new }
+{
+    row.fill(0);
+    let count = table.count();
+    let mut rank = 0;
+    while rank < count {
+        // later monomials have no lesser degree, so where one product is beyond the table's degree theirs are
+        let Some(product) = table.times_rank(shift, rank) else {
+            return;
+        };
+        let run = table.run_from(rank);
+        copy_run(row, other, rank as usize, product as usize, run as usize);
+        rank += run;
     }
 }
 
