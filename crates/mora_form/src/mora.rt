@@ -170,6 +170,7 @@ impl Mora {
             &self.known,
             &mut self.kept,
             &mut self.row,
+            &mut self.scratch,
         );
         draft_when_stuck(
             &mut self.draft,
