@@ -52,6 +52,36 @@ head_of_both : (xs ys : List ℕ) (c : ℕ) (cs : List ℕ) → xs ≢ [] → xs
 head_of_both [] ys c cs full e = absurd (full refl)
 head_of_both (x ∷ xs) ys c cs full e = (xs, (let is : x ≡ c = ap first_chunk e in ap (λ (n : ℕ). n ∷ xs) is))
 
+-- the view of both fits where each does: it knows the longer of the two lists
+both_fit : (p : Setting) (entries : List Entry) (heads words : List ℕ) (v w : View) → v.seat.numbers ≢ [] → Fits p entries heads words v → Fits p entries heads words w → v.seat.known ≤ length entries → w.seat.known ≤ length entries
+    → Fits p entries heads words (both v w)
+both_fit p entries heads words v w full f g l m = record {
+  setting = f.setting;
+  list = lists (nat_le w.seat.known v.seat.known) refl;
+  chunks = omega (arith, length-append v.chunks w.chunks, length-append v.seat.numbers w.seat.numbers, f.chunks, g.chunks);
+  draft = λ c cs e. let h = head_of_both v.chunks w.chunks c cs (λ none. full (empty v.seat.numbers (sym f.chunks ∙ ap length none))) e in f.draft c h.0 h.1;
+  short = f.short;
+  taken = λ c e. takes (nat_le w.seat.known v.seat.known) refl c e;
+  reading = λ q e. absurd (cc);
+  joined = begins (nat_le w.seat.known v.seat.known) refl;
+}
+  where
+    empty : (ns : List ℕ) → length ns ≡ 0 → ns ≡ []
+    empty [] e = refl
+    empty (n ∷ ns) e = absurd (omega arith)
+
+    begins : (b : Bool) → nat_le w.seat.known v.seat.known ≡ b → Begins (if b then w.list else v.list) (if b then v.list else w.list)
+    begins true e = begin_both w.list v.list entries w.seat.known v.seat.known (leb-true w.seat.known v.seat.known e) m g.list f.list
+    begins false e = let gt = leb-false w.seat.known v.seat.known e in begin_both v.list w.list entries v.seat.known w.seat.known (omega (arith, gt)) l f.list g.list
+
+    lists : (b : Bool) → nat_le w.seat.known v.seat.known ≡ b → (if b then v.list else w.list) ≡ take (max v.seat.known w.seat.known) entries
+    lists true e = let le = leb-true w.seat.known v.seat.known e in f.list ∙ ap (λ (n : ℕ). take n entries) (omega arith)
+    lists false e = let gt = leb-false w.seat.known v.seat.known e in g.list ∙ ap (λ (n : ℕ). take n entries) (omega arith)
+
+    takes : (b : Bool) → nat_le w.seat.known v.seat.known ≡ b → (c : ℕ) → (if b then v.taken else None) ≡ Some c → (max v.seat.known w.seat.known < length entries) × (get_or heads (max v.seat.known w.seat.known) 0 ≡ c)
+    takes true e c is = let le = leb-true w.seat.known v.seat.known e in let m : v.seat.known ≡ max v.seat.known w.seat.known = omega arith in subst (λ (n : ℕ). (n < length entries) × (get_or heads n 0 ≡ c)) m (f.taken c is)
+    takes false e c is = absurd (cc)
+
 -- the joining of a seat keeps the rule
 pub joins : Law → (p : Setting) (id : ℕ) (v : View) (other : ℕ) (w : View) → is_busy v ≡ false → is_busy w ≡ false → v.seat.numbers ≢ [] → w.seat.numbers ≢ [] → Joins (Kept p) id v other w (both v w) spent_view
 joins law p id v other w shut shut' full full' s k at ne there' =
@@ -74,7 +104,7 @@ joins law p id v other w shut shut' full full' s k at ne there' =
       views = λ i u e. ⊎_elim
           (λ (t : (i ≡ other) × (spent_view ≡ u)). inl (subst IsSpent t.1 (refl, refl)))
           (λ (t : (i ≢ other) × (get_elem? (set s.views id b) i ≡ some u)). ⊎_elim
-          (λ (t' : (i ≡ id) × (b ≡ u)). inr (subst (Fits p k.entries k.heads s.words) t'.1 (both_fit f g (known_at p s k id v at) (known_at p s k other w there))))
+          (λ (t' : (i ≡ id) × (b ≡ u)). inr (subst (Fits p k.entries k.heads s.words) t'.1 (both_fit p k.entries k.heads s.words v w full f g (known_at p s k id v at) (known_at p s k other w there))))
           (λ (t' : (i ≢ id) × (get_elem? s.views i ≡ some u)). k.views i u t'.1)
           (at_set s.views id i b u t.1))
           (at_set (set s.views id b) other i spent_view u e);
@@ -88,34 +118,6 @@ joins law p id v other w shut shut' full full' s k at ne there' =
 
     seats_are : set (set (map seat_of s.views) id (joined v.seat w.seat)) other nobody ≡ map seat_of (set (set s.views id (both v w)) other spent_view)
     seats_are = ap (λ (l : List Seat). set l other nobody) (sym (map-set seat_of s.views id (both v w))) ∙ sym (map-set seat_of (set s.views id (both v w)) other spent_view)
-
-    both_fit : Fits p k.entries k.heads s.words v → Fits p k.entries k.heads s.words w → v.seat.known ≤ length k.entries → w.seat.known ≤ length k.entries → Fits p k.entries k.heads s.words (both v w)
-    both_fit f g l m = record {
-      setting = f.setting;
-      list = lists (nat_le w.seat.known v.seat.known) refl;
-      chunks = omega (arith, length-append v.chunks w.chunks, length-append v.seat.numbers w.seat.numbers, f.chunks, g.chunks);
-      draft = λ c cs e. let h = head_of_both v.chunks w.chunks c cs (λ none. full (empty v.seat.numbers (sym f.chunks ∙ ap length none))) e in f.draft c h.0 h.1;
-      short = f.short;
-      taken = λ c e. takes (nat_le w.seat.known v.seat.known) refl c e;
-      reading = λ q e. absurd (cc);
-      joined = begins (nat_le w.seat.known v.seat.known) refl;
-    }
-      where
-        empty : (ns : List ℕ) → length ns ≡ 0 → ns ≡ []
-        empty [] e = refl
-        empty (n ∷ ns) e = absurd (omega arith)
-
-        begins : (b : Bool) → nat_le w.seat.known v.seat.known ≡ b → Begins (if b then w.list else v.list) (if b then v.list else w.list)
-        begins true e = begin_both w.list v.list k.entries w.seat.known v.seat.known (leb-true w.seat.known v.seat.known e) m g.list f.list
-        begins false e = let gt = leb-false w.seat.known v.seat.known e in begin_both v.list w.list k.entries v.seat.known w.seat.known (omega (arith, gt)) l f.list g.list
-
-        lists : (b : Bool) → nat_le w.seat.known v.seat.known ≡ b → (if b then v.list else w.list) ≡ take (max v.seat.known w.seat.known) k.entries
-        lists true e = let le = leb-true w.seat.known v.seat.known e in f.list ∙ ap (λ (n : ℕ). take n k.entries) (omega arith)
-        lists false e = let gt = leb-false w.seat.known v.seat.known e in g.list ∙ ap (λ (n : ℕ). take n k.entries) (omega arith)
-
-        takes : (b : Bool) → nat_le w.seat.known v.seat.known ≡ b → (c : ℕ) → (if b then v.taken else None) ≡ Some c → (max v.seat.known w.seat.known < length k.entries) × (get_or k.heads (max v.seat.known w.seat.known) 0 ≡ c)
-        takes true e c is = let le = leb-true w.seat.known v.seat.known e in let m : v.seat.known ≡ max v.seat.known w.seat.known = omega arith in subst (λ (n : ℕ). (n < length k.entries) × (get_or k.heads n 0 ≡ c)) m (f.taken c is)
-        takes false e c is = absurd (cc)
 
 -- what the rule says of a seat, at a load of word 0
 pub settles : LastLaw → (p : Setting) (slots id : ℕ) (me : Me) → me.0.setting ≡ p → me.0.seat.numbers ≢ [] → Allows (Kept p) slots id me 0 (λ n. n) (Settled (step slots 0 0 0 none) me)

@@ -102,13 +102,13 @@ all_read p s k r b many all =
     let len : length (words_of e) ≡ length r.words = omega (arith, count_words e, c.0, c.1, all) in
     (same_lists (words_of e) r.words len (λ n less. lies_agree s.words (body p r.chunk) (words_of e) r.words n b.lies b.read less (omega (arith, less, len))), b.told.spellable)
 
-module _ (p : Setting) (slots id : ℕ) (me : Me) (r : BodyReading) (ok : IsProblem p.problem) (is : me.0.setting ≡ p) (full : me.0.seat.numbers ≢ []) (reading : me.0.reading ≡ Some r) (small : length r.words < top p + 8) where
-  -- where the next word stands
-  abbrev pub next_word : ℕ
-  next_word = body p r.chunk + length r.words
+-- where the next word stands
+abbrev pub next_word : Setting → BodyReading → ℕ
+next_word p r = body p r.chunk + length r.words
 
+module _ (p : Setting) (slots id : ℕ) (me : Me) (r : BodyReading) (ok : IsProblem p.problem) (is : me.0.setting ≡ p) (full : me.0.seat.numbers ≢ []) (reading : me.0.reading ≡ Some r) (small : length r.words < top p + 8) where
   -- the view fits when it has read the next word
-  reading_fits : (s : Words) (k : Kept p s) → Fits p k.entries k.heads s.words me.0 → Fits p k.entries k.heads s.words (record me.0 { reading = read_more (get_or s.words next_word 0) me.0.reading })
+  reading_fits : (s : Words) (k : Kept p s) → Fits p k.entries k.heads s.words me.0 → Fits p k.entries k.heads s.words (record me.0 { reading = read_more (get_or s.words (next_word p r) 0) me.0.reading })
   reading_fits s k f =
       let b = body_more p s k r (body_at p s k me.0 r ok f reading) small in
       record {
@@ -118,7 +118,7 @@ module _ (p : Setting) (slots id : ℕ) (me : Me) (r : BodyReading) (ok : IsProb
         draft = f.draft;
         short = f.short;
         taken = f.taken;
-        reading = (λ q e. let same : next_reading (get_or s.words next_word 0) r ≡ q = some_reading (sym (ap (read_more (get_or s.words next_word 0)) reading) ∙ e) in
+        reading = (λ q e. let same : next_reading (get_or s.words (next_word p r) 0) r ≡ q = some_reading (sym (ap (read_more (get_or s.words (next_word p r) 0)) reading) ∙ e) in
             subst (λ (q : BodyReading). (q.place < length k.entries) × (get_or k.heads q.place 0 ≡ q.chunk) × Lies s.words (body p q.chunk) q.words × (length q.words ≤ top p + 8)) same (b.within, (f.reading r reading).1, b.read, b.short));
         joined = f.joined;
       }
@@ -127,15 +127,15 @@ module _ (p : Setting) (slots id : ℕ) (me : Me) (r : BodyReading) (ok : IsProb
       some_reading e = cc e
 
   -- the load of a word that isn't the last
-  pub reads_more : Allows (Kept p) slots id me next_word (λ n. n) (ReadWord (step slots next_word 0 0 none) me)
+  pub reads_more : Allows (Kept p) slots id me (next_word p r) (λ n. n) (ReadWord (step slots (next_word p r) 0 0 none) me)
   reads_more s k _ at _ =
       let f = fits_now p s k id me.0 at full in
-      let found : ℕ = get_or s.words next_word 0 in
+      let found : ℕ = get_or s.words (next_word p r) 0 in
       let w : View = record me.0 { reading = read_more found me.0.reading } in (
         w,
         keeps,
         tt,
-        kept_view p s k id me.0 w (set s.words next_word found) (set-get_or s.words next_word 0) at refl refl (reading_fits s k f),
+        kept_view p s k id me.0 w (set s.words (next_word p r) found) (set-get_or s.words (next_word p r) 0) at refl refl (reading_fits s k f),
         (
           refl,
           refl,
@@ -143,82 +143,82 @@ module _ (p : Setting) (slots id : ℕ) (me : Me) (r : BodyReading) (ok : IsProb
         ),
       )
     where
-      counted : (s : Words) (k : Kept p s) → Fits p k.entries k.heads s.words me.0 → HasCounted p (Some (next_reading (get_or s.words next_word 0) r))
+      counted : (s : Words) (k : Kept p s) → Fits p k.entries k.heads s.words me.0 → HasCounted p (Some (next_reading (get_or s.words (next_word p r) 0) r))
       counted s k f three =
           let b = body_more p s k r (body_at p s k me.0 r ok f reading) small in
-          let c = counts_read p s k (next_reading (get_or s.words next_word 0) r) b (omega arith) in
+          let c = counts_read p s k (next_reading (get_or s.words (next_word p r) 0) r) b (omega arith) in
           (omega (arith, c.0, b.told.spellable.some_reads), omega (arith, c.1, b.told.some), omega (arith, c.0, c.1, b.told.few))
 
-  module _ (many : 2 < length r.words) (last : length r.words ≡ 2 + get_or r.words 1 0 + get_or r.words 2 0) where
-    -- with the last word the words are those of the entry
-    whole : (s : Words) (k : Kept p s) → Fits p k.entries k.heads s.words me.0 → IsEntryOf p (r.words ++ get_or s.words next_word 0 ∷ []) (entry_at k.entries r.place)
-    whole s k f =
-        let x : ℕ = get_or s.words next_word 0 in
-        let b = body_more p s k r (body_at p s k me.0 r ok f reading) small in
-        let n = length-append r.words (x ∷ []) in
-        let one = get_front r.words (x ∷ []) 1 (omega arith) in
-        let two = get_front r.words (x ∷ []) 2 many in
-        all_read p s k (next_reading x r) b (omega (arith, n, many)) (omega (arith, n, last, one, two))
+module _ (p : Setting) (slots id : ℕ) (me : Me) (r : BodyReading) (ok : IsProblem p.problem) (is : me.0.setting ≡ p) (full : me.0.seat.numbers ≢ []) (reading : me.0.reading ≡ Some r) (small : length r.words < top p + 8) (many : 2 < length r.words) (last : length r.words ≡ 2 + get_or r.words 1 0 + get_or r.words 2 0) where
+  -- with the last word the words are those of the entry
+  whole : (s : Words) (k : Kept p s) → Fits p k.entries k.heads s.words me.0 → IsEntryOf p (r.words ++ get_or s.words (next_word p r) 0 ∷ []) (entry_at k.entries r.place)
+  whole s k f =
+      let x : ℕ = get_or s.words (next_word p r) 0 in
+      let b = body_more p s k r (body_at p s k me.0 r ok f reading) small in
+      let n = length-append r.words (x ∷ []) in
+      let one = get_front r.words (x ∷ []) 1 (omega arith) in
+      let two = get_front r.words (x ∷ []) 2 many in
+      all_read p s k (next_reading x r) b (omega (arith, n, many)) (omega (arith, n, last, one, two))
 
-    -- so they are as the view has them
-    words_are : (s : Words) (k : Kept p s) → Fits p k.entries k.heads s.words me.0 → IsEntryOf p (words_read me.0.reading ++ get_or s.words next_word 0 ∷ []) (entry_at k.entries r.place)
-    words_are s k f = subst (λ (o : Option BodyReading). IsEntryOf p (words_read o ++ get_or s.words next_word 0 ∷ []) (entry_at k.entries r.place)) (sym reading) (whole s k f)
+  -- so they are as the view has them
+  words_are : (s : Words) (k : Kept p s) → Fits p k.entries k.heads s.words me.0 → IsEntryOf p (words_read me.0.reading ++ get_or s.words (next_word p r) 0 ∷ []) (entry_at k.entries r.place)
+  words_are s k f = subst (λ (o : Option BodyReading). IsEntryOf p (words_read o ++ get_or s.words (next_word p r) 0 ∷ []) (entry_at k.entries r.place)) (sym reading) (whole s k f)
 
-    -- the load of the last word of the entry behind what is known
-    pub learns : Law → r.place ≡ me.0.seat.known → Allows (Kept p) slots id me next_word (λ n. n) (LearntWord (step slots next_word 0 0 none) me)
-    learns law place s k _ at _ =
-        let v : View = me.0 in
-        let found : ℕ = get_or s.words next_word 0 in
-        let f = fits_now p s k id v at full in
-        let less : v.seat.known < length k.entries = subst (λ (n : ℕ). n < length k.entries) place (f.reading r reading).0 in
-        let e : Entry = entry_at k.entries v.seat.known in
-        let w : View = learnt_view e v in
-        let now : State = shown_by p k.entries s in
-        let next : State = record now { seats = set (map seat_of s.views) id (learnt v.seat) } in
-        let sound : IsSound (core p k.entries (get_or s.words 0 0) (get_or s.words 1 0) (set s.views id w)) =
-        subst (λ (l : List Seat). IsSound (record now { seats = l })) (sym (map-set seat_of s.views id w)) (law now next id Look k.sound (v.seat, at_map seat_of s.views id v at, full, inl (less, refl)))
-        in
-        let list : v.list ++ e ∷ [] ≡ take (suc v.seat.known) k.entries = ap (λ (l : List Entry). l ++ e ∷ []) f.list ∙ sym (take_next k.entries v.seat.known less) in (
-          w,
-          keeps,
-          tt,
-          kept_sound p s k id v w (set s.words next_word found) (set-get_or s.words next_word 0) at refl
-              record {
-                setting = f.setting;
-                list = list;
-                chunks = f.chunks;
-                draft = f.draft;
-                short = f.short;
-                taken = (λ c e'. absurd (cc));
-                reading = (λ q e'. absurd (cc));
-                joined = begins_more v.joined v.list e f.joined;
-              }
-              sound,
-          (refl, (e, subst (λ (x : Setting × Entry). IsEntryOf x.0 (words_read v.reading ++ found ∷ []) x.1) (λ i. (sym is i, entry_at k.entries (place i))) (words_are s k f), refl, subst (λ (x : Setting × List Entry). Legal x.0.problem x.1) (λ i. (sym is i, sym list i)) (begun_legal p s k (suc v.seat.known) (omega arith)))),
-        )
+  -- the load of the last word of the entry behind what is known
+  pub learns : Law → r.place ≡ me.0.seat.known → Allows (Kept p) slots id me (next_word p r) (λ n. n) (LearntWord (step slots (next_word p r) 0 0 none) me)
+  learns law place s k _ at _ =
+      let v : View = me.0 in
+      let found : ℕ = get_or s.words (next_word p r) 0 in
+      let f = fits_now p s k id v at full in
+      let less : v.seat.known < length k.entries = subst (λ (n : ℕ). n < length k.entries) place (f.reading r reading).0 in
+      let e : Entry = entry_at k.entries v.seat.known in
+      let w : View = learnt_view e v in
+      let now : State = shown_by p k.entries s in
+      let next : State = record now { seats = set (map seat_of s.views) id (learnt v.seat) } in
+      let sound : IsSound (core p k.entries (get_or s.words 0 0) (get_or s.words 1 0) (set s.views id w)) =
+      subst (λ (l : List Seat). IsSound (record now { seats = l })) (sym (map-set seat_of s.views id w)) (law now next id Look k.sound (v.seat, at_map seat_of s.views id v at, full, inl (less, refl)))
+      in
+      let list : v.list ++ e ∷ [] ≡ take (suc v.seat.known) k.entries = ap (λ (l : List Entry). l ++ e ∷ []) f.list ∙ sym (take_next k.entries v.seat.known less) in (
+        w,
+        keeps,
+        tt,
+        kept_sound p s k id v w (set s.words (next_word p r) found) (set-get_or s.words (next_word p r) 0) at refl
+            record {
+              setting = f.setting;
+              list = list;
+              chunks = f.chunks;
+              draft = f.draft;
+              short = f.short;
+              taken = (λ c e'. absurd (cc));
+              reading = (λ q e'. absurd (cc));
+              joined = begins_more v.joined v.list e f.joined;
+            }
+            sound,
+        (refl, (e, subst (λ (x : Setting × Entry). IsEntryOf x.0 (words_read v.reading ++ found ∷ []) x.1) (λ i. (sym is i, entry_at k.entries (place i))) (words_are s k f), refl, subst (λ (x : Setting × List Entry). Legal x.0.problem x.1) (λ i. (sym is i, sym list i)) (begun_legal p s k (suc v.seat.known) (omega arith)))),
+      )
 
-    -- the load of the last word of an entry that is known
-    pub recalls : r.place < me.0.seat.known → Allows (Kept p) slots id me next_word (λ n. n) (RecalledWord (step slots next_word 0 0 none) me)
-    recalls less s k _ at _ =
-        let v : View = me.0 in
-        let found : ℕ = get_or s.words next_word 0 in
-        let f = fits_now p s k id v at full in
-        let there : entry_at k.entries r.place ≡ entry_at v.list (place_read v.reading) =
-        sym (entry_before k.entries v.seat.known r.place less) ∙ (λ i. entry_at (sym f.list i) (place_read (sym reading i)))
-        in (
-          done_reading v,
-          keeps,
-          tt,
-          kept_view p s k id v (done_reading v) (set s.words next_word found) (set-get_or s.words next_word 0) at refl refl
-              record {
-                setting = f.setting;
-                list = f.list;
-                chunks = f.chunks;
-                draft = f.draft;
-                short = f.short;
-                taken = f.taken;
-                reading = (λ q e. absurd (cc));
-                joined = f.joined;
-              },
-          (refl, refl, subst (λ (x : Setting × Entry). IsEntryOf x.0 (words_read v.reading ++ found ∷ []) x.1) (λ i. (sym is i, there i)) (words_are s k f)),
-        )
+  -- the load of the last word of an entry that is known
+  pub recalls : r.place < me.0.seat.known → Allows (Kept p) slots id me (next_word p r) (λ n. n) (RecalledWord (step slots (next_word p r) 0 0 none) me)
+  recalls less s k _ at _ =
+      let v : View = me.0 in
+      let found : ℕ = get_or s.words (next_word p r) 0 in
+      let f = fits_now p s k id v at full in
+      let there : entry_at k.entries r.place ≡ entry_at v.list (place_read v.reading) =
+      sym (entry_before k.entries v.seat.known r.place less) ∙ (λ i. entry_at (sym f.list i) (place_read (sym reading i)))
+      in (
+        done_reading v,
+        keeps,
+        tt,
+        kept_view p s k id v (done_reading v) (set s.words (next_word p r) found) (set-get_or s.words (next_word p r) 0) at refl refl
+            record {
+              setting = f.setting;
+              list = f.list;
+              chunks = f.chunks;
+              draft = f.draft;
+              short = f.short;
+              taken = f.taken;
+              reading = (λ q e. absurd (cc));
+              joined = f.joined;
+            },
+        (refl, refl, subst (λ (x : Setting × Entry). IsEntryOf x.0 (words_read v.reading ++ found ∷ []) x.1) (λ i. (sym is i, there i)) (words_are s k f)),
+      )

@@ -113,142 +113,209 @@ posts_refused p slots id me c s k some_numbers low at miss =
       (refl, (λ hit. absurd (miss hit)), (λ _. refl)),
     )
 
--- where it is empty
-pub posts_taken : Law × OpenLaw × PlaceLaw → (p : Setting) (slots id : ℕ) (me : Me) (c : ℕ) (cs : List ℕ) (s : Words) (k : Kept p s) → me.0.setting ≡ p → me.0.seat.numbers ≢ [] → IsStuck me.0 → me.0.chunks ≡ c ∷ cs
-    → me.0.draft ≡ words_of (made me.0) → get_elem? s.views id ≡ some me.0 → get_or s.words (2 + me.0.seat.known) 0 ≡ 0 → TakesHead p slots id me c s
-posts_taken laws p slots id me c cs s k is full stuck chunks draft_is at hit = (
-  posted me.0,
-  keeps,
-  tt,
-  subst (λ (n : ℕ). Kept p (record { words = set s.words (2 + me.0.seat.known) n; homes = s.homes; views = set s.views id (posted me.0) })) (sym word) kept,
-  (refl, (λ _. (refl, subst (λ (q : Setting). me.0.seat.known < top q) (sym is) low, legal)), (λ miss. absurd (miss hit))),
-)
-  where
-    word : either ((get_or s.words (2 + me.0.seat.known) 0) == 0) (c + 1) (get_or s.words (2 + me.0.seat.known) 0) ≡ suc c
-    word = ap (λ b. either b (c + 1) (get_or s.words (2 + me.0.seat.known) 0)) (eq-eqb (get_or s.words (2 + me.0.seat.known) 0) 0 hit) ∙ (omega arith)
+module _ (laws : Law × OpenLaw × PlaceLaw) (p : Setting) (slots id : ℕ) (me : Me) (c : ℕ) (cs : List ℕ) (s : Words) (k : Kept p s) (is : me.0.setting ≡ p) (full : me.0.seat.numbers ≢ []) (stuck : IsStuck me.0) (chunks : me.0.chunks ≡ c ∷ cs)
+    (draft_is : me.0.draft ≡ words_of (made me.0)) (at : get_elem? s.views id ≡ some me.0) (hit : get_or s.words (2 + me.0.seat.known) 0 ≡ 0) where
+  -- the word becomes the chunk and 1
+  word : either ((get_or s.words (2 + me.0.seat.known) 0) == 0) (c + 1) (get_or s.words (2 + me.0.seat.known) 0) ≡ suc c
+  word = ap (λ b. either b (c + 1) (get_or s.words (2 + me.0.seat.known) 0)) (eq-eqb (get_or s.words (2 + me.0.seat.known) 0) 0 hit) ∙ (omega arith)
 
-    f : Fits p k.entries k.heads s.words me.0
-    f = fits_now p s k id me.0 at full
+  -- the seat's view fits
+  f : Fits p k.entries k.heads s.words me.0
+  f = fits_now p s k id me.0 at full
 
-    all : me.0.seat.known ≡ length k.entries
-    all = let le = known_at p s k id me.0 at in let count = k.count in
-        dite (dec_le (length k.entries) me.0.seat.known) (λ more. omega arith) (λ less. let n = k.named me.0.seat.known (omega arith) in absurd (omega arith))
+  -- the seat knows all entries
+  all : me.0.seat.known ≡ length k.entries
+  all = let le = known_at p s k id me.0 at in let count = k.count in
+      dite (dec_le (length k.entries) me.0.seat.known) (λ more. omega arith) (λ less. let n = k.named me.0.seat.known (omega arith) in absurd (omega arith))
 
-    made_is : made me.0 ≡ draft_by (shown_by p k.entries s) me.0.seat
-    made_is = λ i. draft ((is i).problem) (f.list i) me.0.seat.hand
+  -- its entry is that of the machine's seat
+  made_is : made me.0 ≡ draft_by (shown_by p k.entries s) me.0.seat
+  made_is = λ i. draft ((is i).problem) (f.list i) me.0.seat.hand
 
-    seat_is : shown (shown_by p k.entries s) me.0.seat ≡ (posted me.0).seat
-    seat_is = λ i. record me.0.seat { known = suc me.0.seat.known; hand = marked me.0.seat.hand; published = me.0.seat.published + steps_of (sym made_is i) }
+  -- so is its seat afterwards
+  seat_is : shown (shown_by p k.entries s) me.0.seat ≡ (posted me.0).seat
+  seat_is = λ i. record me.0.seat { known = suc me.0.seat.known; hand = marked me.0.seat.hand; published = me.0.seat.published + steps_of (sym made_is i) }
 
-    -- the machine's seat may publish
-    can : CanPublish (shown_by p k.entries s) me.0.seat
-    can = laws.1 (shown_by p k.entries s) id me.0.seat k.sound (at_map seat_of s.views id me.0 at) all ((λ i. hand_end ((sym is i).problem) (sym f.list i) me.0.seat.hand) ∙ stuck.0) stuck.1
+  -- the machine's seat may publish
+  can : CanPublish (shown_by p k.entries s) me.0.seat
+  can = laws.1 (shown_by p k.entries s) id me.0.seat k.sound (at_map seat_of s.views id me.0 at) all ((λ i. hand_end ((sym is i).problem) (sym f.list i) me.0.seat.hand) ∙ stuck.0) stuck.1
 
-    place : (length (draft_by (shown_by p k.entries s) me.0.seat).reads + length (draft_by (shown_by p k.entries s) me.0.seat).terms ≤ top p + 1) × (me.0.seat.known < top p)
-    place = laws.2 (shown_by p k.entries s) id me.0.seat k.sound (at_map seat_of s.views id me.0 at) can
+  -- there is room for the entry in its chunk, and for its head
+  place : (length (draft_by (shown_by p k.entries s) me.0.seat).reads + length (draft_by (shown_by p k.entries s) me.0.seat).terms ≤ top p + 1) × (me.0.seat.known < top p)
+  place = laws.2 (shown_by p k.entries s) id me.0.seat k.sound (at_map seat_of s.views id me.0 at) can
 
-    low : me.0.seat.known < top p
-    low = place.1
+  -- its words fit into the chunk
+  long : length (words_of (made me.0)) ≤ top p + 8
+  long = subst (λ (e : Entry). length (words_of e) ≤ top p + 8) (sym made_is) (omega (arith, place.0, count_words (draft_by (shown_by p k.entries s) me.0.seat)))
 
-    long : length (words_of (made me.0)) ≤ top p + 8
-    long = subst (λ (e : Entry). length (words_of e) ≤ top p + 8) (sym made_is) (omega (arith, place.0, count_words (draft_by (shown_by p k.entries s) me.0.seat)))
+  -- there is one entry more
+  many : length (k.entries ++ made me.0 ∷ []) ≡ suc (length k.entries)
+  many = omega (arith, length-append k.entries (made me.0 ∷ []))
 
-    many : length (k.entries ++ made me.0 ∷ []) ≡ suc (length k.entries)
-    many = omega (arith, length-append k.entries (made me.0 ∷ []))
+  -- and one head
+  many_heads : length (k.heads ++ c ∷ []) ≡ suc (length k.entries)
+  many_heads = let count = k.count in omega (arith, length-append k.heads (c ∷ []))
 
-    many_heads : length (k.heads ++ c ∷ []) ≡ suc (length k.entries)
-    many_heads = let count = k.count in omega (arith, length-append k.heads (c ∷ []))
+  -- the head is a word of the table
+  room : (2 + me.0.seat.known) < length s.words
+  room = let size = k.size in let z : ℕ = (top p + p.workers) * (top p + 8) in let size' : length s.words ≡ top p + 3 + z = size in omega (arith, size', place.1)
 
-    room : (2 + me.0.seat.known) < length s.words
-    room = let size = k.size in let z : ℕ = (top p + p.workers) * (top p + 8) in let size' : length s.words ≡ top p + 3 + z = size in omega (arith, size', low)
+  -- it stands before all bodies
+  moves : (d : ℕ) (xs : List ℕ) → Lies s.words (body p d) xs → Lies (set s.words (2 + me.0.seat.known) (suc c)) (body p d) xs
+  moves d xs = lies_low p s.words (2 + me.0.seat.known) (suc c) d xs (omega (arith, place.1))
 
-    moves : (d : ℕ) (xs : List ℕ) → Lies s.words (body p d) xs → Lies (set s.words (2 + me.0.seat.known) (suc c)) (body p d) xs
-    moves d xs = lies_low p s.words (2 + me.0.seat.known) (suc c) d xs (omega (arith, low))
+  -- the heads before name what they named
+  old_head : (i : ℕ) → i < length k.entries → get_or (k.heads ++ c ∷ []) i 0 ≡ get_or k.heads i 0
+  old_head i less = let count = k.count in get_front k.heads (c ∷ []) i (omega arith)
 
-    old_head : (i : ℕ) → i < length k.entries → get_or (k.heads ++ c ∷ []) i 0 ≡ get_or k.heads i 0
-    old_head i less = let count = k.count in get_front k.heads (c ∷ []) i (omega arith)
+  -- the new head names the seat's chunk
+  new_head : get_or (k.heads ++ c ∷ []) me.0.seat.known 0 ≡ c
+  new_head = ap (λ (n : ℕ). get_or (k.heads ++ c ∷ []) n 0) (all ∙ sym k.count) ∙ get_last k.heads c
 
-    new_head : get_or (k.heads ++ c ∷ []) me.0.seat.known 0 ≡ c
-    new_head = ap (λ (n : ℕ). get_or (k.heads ++ c ∷ []) n 0) (all ∙ sym k.count) ∙ get_last k.heads c
+  -- the number goes on with a chunk that nobody had
+  next : (posted me.0).chunks ≡ (p.workers + me.0.seat.known) ∷ cs
+  next = ap (behind_first (me.0.setting.workers + me.0.seat.known)) chunks ∙ ap (λ (q : Setting). (q.workers + me.0.seat.known) ∷ cs) is
 
-    next : (posted me.0).chunks ≡ (p.workers + me.0.seat.known) ∷ cs
-    next = ap (behind_first (me.0.setting.workers + me.0.seat.known)) chunks ∙ ap (λ (q : Setting). (q.workers + me.0.seat.known) ∷ cs) is
+  -- which is the one chunk more that has an owner
+  count_held : (d : ℕ) → held d (k.heads ++ c ∷ []) (set s.views id (posted me.0)) ≡ held d k.heads s.views + times d ((p.workers + me.0.seat.known) ∷ [])
+  count_held d =
+      let t = sum_set (λ (y : View). times d y.chunks) s.views id me.0 (posted me.0) at in
+      let a = ap (times d) chunks in
+      let b = ap (times d) next in
+      let h = times_snoc d c k.heads in
+      omega (arith, t, a, b, h, times_first d c cs, times_first d (p.workers + me.0.seat.known) cs)
 
-    count_held : (d : ℕ) → held d (k.heads ++ c ∷ []) (set s.views id (posted me.0)) ≡ held d k.heads s.views + times d ((p.workers + me.0.seat.known) ∷ [])
-    count_held d = let t = sum_set (λ (y : View). times d y.chunks) s.views id me.0 (posted me.0) at in let a = ap (times d) chunks in let b = ap (times d) next in let h = times_snoc d c k.heads in omega (arith, t, a, b, h, times_first d c cs, times_first d (p.workers + me.0.seat.known) cs)
+  -- the other views still fit
+  fit_more : (u : View) → u.seat.known ≤ length k.entries → Fits p k.entries k.heads s.words u → Fits p (k.entries ++ made me.0 ∷ []) (k.heads ++ c ∷ []) (set s.words (2 + me.0.seat.known) (suc c)) u
+  fit_more u le g = let mn = many in record {
+    setting = g.setting;
+    list = g.list ∙ sym (take_front k.entries (made me.0 ∷ []) u.seat.known le);
+    chunks = g.chunks;
+    draft = λ d ds same. moves d u.draft (g.draft d ds same);
+    short = g.short;
+    taken = λ d same. let t = g.taken d same in let less = t.0 in (omega arith, old_head u.seat.known t.0 ∙ t.1);
+    reading = λ r same. let t = g.reading r same in let less = t.0 in (omega arith, old_head r.place t.0 ∙ t.1, moves r.chunk r.words t.2, t.3);
+    joined = g.joined;
+  }
 
-    fit_more : (u : View) → u.seat.known ≤ length k.entries → Fits p k.entries k.heads s.words u → Fits p (k.entries ++ made me.0 ∷ []) (k.heads ++ c ∷ []) (set s.words (2 + me.0.seat.known) (suc c)) u
-    fit_more u le g = let mn = many in record {
-      setting = g.setting;
-      list = g.list ∙ sym (take_front k.entries (made me.0 ∷ []) u.seat.known le);
-      chunks = g.chunks;
-      draft = λ d ds same. moves d u.draft (g.draft d ds same);
-      short = g.short;
-      taken = λ d same. let t = g.taken d same in let less = t.0 in (omega arith, old_head u.seat.known t.0 ∙ t.1);
-      reading = λ r same. let t = g.reading r same in let less = t.0 in (omega arith, old_head r.place t.0 ∙ t.1, moves r.chunk r.words t.2, t.3);
-      joined = g.joined;
-    }
+  -- and so does the seat's own
+  fit_posted : Fits p (k.entries ++ made me.0 ∷ []) (k.heads ++ c ∷ []) (set s.words (2 + me.0.seat.known) (suc c)) (posted me.0)
+  fit_posted =
+      let mn = many in
+      let al = all in record {
+        setting = f.setting;
+        list = ap (λ (l : List Entry). l ++ made me.0 ∷ []) (f.list ∙ take_all k.entries me.0.seat.known all) ∙ sym (take_all (k.entries ++ made me.0 ∷ []) (suc me.0.seat.known) (omega arith));
+        chunks = ap length next ∙ sym (ap length chunks) ∙ f.chunks;
+        joined = begins_more me.0.joined me.0.list (made me.0) f.joined;
+        draft = (λ d ds same n less. absurd (omega arith));
+        short = omega arith;
+        taken = (λ d same. absurd (cc));
+        reading = (λ r same. let t = f.reading r same in let less = t.0 in (omega arith, old_head r.place t.0 ∙ t.1, moves r.chunk r.words t.2, t.3));
+      }
 
-    kept : Kept p (record { words = (set s.words (2 + me.0.seat.known) (suc c)); homes = s.homes; views = set s.views id (posted me.0) })
-    kept =
-        let few = k.few in
-        let al = all in
-        let mn = many in
-        let mh = many_heads in
-        let lw = low in
-        let count = k.count in
-        record {
-          entries = (k.entries ++ made me.0 ∷ []);
-          heads = (k.heads ++ c ∷ []);
-          size = length-set s.words (2 + me.0.seat.known) (suc c) ∙ k.size;
-          few = omega arith;
-          count = omega arith;
-          named = λ i less. dite (ℕ_discrete i me.0.seat.known)
-              (λ here. subst (λ (n : ℕ). get_or (set s.words (2 + me.0.seat.known) (suc c)) (2 + n) 0 ≡ suc (get_or (k.heads ++ c ∷ []) n 0)) (sym here) (get_or-set_same s.words (2 + me.0.seat.known) (suc c) 0 room ∙ ap suc (sym new_head)))
-              (λ other. let less' : i < length k.heads = omega arith in get_or-set_other s.words (2 + me.0.seat.known) (2 + i) (suc c) 0 (λ same. other (omega arith)) ∙ k.named i less' ∙ ap suc (sym (old_head i (omega arith))));
-          blank = λ i le top. get_or-set_other s.words (2 + me.0.seat.known) (2 + i) (suc c) 0 (λ same. omega arith) ∙ k.blank i (omega arith) top;
-          apart = λ d. let h = count_held d in let a = k.apart d in let b = k.bound d in ⊎_elim
-              (λ (t : (d ≡ p.workers + me.0.seat.known) × (times d ((p.workers + me.0.seat.known) ∷ []) ≡ 1)). let n = t.0 in let o = t.1 in dite (dec_le 1 (held d k.heads s.views)) (λ some_held. let x = b (omega arith) in absurd (omega arith)) (λ none_held. omega arith))
-              (λ t. let o = t.1 in omega arith)
-              (times_one d (p.workers + me.0.seat.known));
-          bound = λ d some_held. let h = count_held d in let b = k.bound d in ⊎_elim
-              (λ (t : (d ≡ p.workers + me.0.seat.known) × (times d ((p.workers + me.0.seat.known) ∷ []) ≡ 1)). let n = t.0 in omega arith)
-              (λ t. let o = t.1 in let x = b (omega arith) in omega arith)
-              (times_one d (p.workers + me.0.seat.known));
-          spelled = λ i x there. ⊎_elim
-              (λ old. let t = k.spelled i x old in let less = below k.entries i x old in (subst (λ (n : ℕ). Lies (set s.words (2 + me.0.seat.known) (suc c)) (body p n) (words_of x)) (sym (old_head i less)) (moves (get_or k.heads i 0) (words_of x) t.0), t.1))
-              (λ (last : (i ≡ length k.entries) × (made me.0 ≡ x)).
-              let here : get_or (k.heads ++ c ∷ []) i 0 ≡ c = ap (λ (n : ℕ). get_or (k.heads ++ c ∷ []) n 0) (last.0 ∙ sym all) ∙ new_head in
-              let lies : Lies s.words (body p c) (words_of (made me.0)) = subst (Lies s.words (body p c)) draft_is (f.draft c cs chunks) in
-              subst (λ (y : Entry). Lies (set s.words (2 + me.0.seat.known) (suc c)) (body p (get_or (k.heads ++ c ∷ []) i 0)) (words_of y) × (length (words_of y) ≤ top p + 8)) last.1 (subst (λ (n : ℕ). Lies (set s.words (2 + me.0.seat.known) (suc c)) (body p n) (words_of (made me.0))) (sym here) (moves c (words_of (made me.0)) lies), long))
-              (at_snoc k.entries (made me.0) x i there);
-          views = λ i u there. ⊎_elim
-              (λ (t : (i ≡ id) × ((posted me.0) ≡ u)). inr (subst (Fits p (k.entries ++ made me.0 ∷ []) (k.heads ++ c ∷ []) (set s.words (2 + me.0.seat.known) (suc c))) t.1
-              record {
-                setting = f.setting;
-                list = ap (λ (l : List Entry). l ++ made me.0 ∷ []) (f.list ∙ take_all k.entries me.0.seat.known all) ∙ sym (take_all (k.entries ++ made me.0 ∷ []) (suc me.0.seat.known) (omega arith));
-                chunks = ap length next ∙ sym (ap length chunks) ∙ f.chunks;
-                joined = begins_more me.0.joined me.0.list (made me.0) f.joined;
-                draft = (λ d ds same n less. absurd (omega arith));
-                short = omega arith;
-                taken = (λ d same. absurd (cc));
-                reading = (λ r same. let t = f.reading r same in let less = t.0 in (omega arith, old_head r.place t.0 ∙ t.1, moves r.chunk r.words t.2, t.3));
-              }))
-              (λ (t : (i ≢ id) × (get_elem? s.views i ≡ some u)). ⊎_elim (λ spent. inl spent) (λ g. inr (fit_more u (known_at p s k i u t.1) g)) (k.views i u t.1))
-              (at_set s.views id i (posted me.0) u there);
-          sound = subst IsSound (λ i. record {
-            problem = p.problem;
-            workers = p.workers;
-            entries = (k.entries ++ (sym made_is i) ∷ []);
-            corner = sym (get_or-set_other s.words (2 + me.0.seat.known) 0 (suc c) 0 (λ same. omega arith)) i;
-            ticket = sym (get_or-set_other s.words (2 + me.0.seat.known) 1 (suc c) 0 (λ same. omega arith)) i;
-            seats = (ap (set (map seat_of s.views) id) seat_is ∙ sym (map-set seat_of s.views id (posted me.0))) i;
-          }) (laws.0 (shown_by p k.entries s) (after_publish (shown_by p k.entries s) id me.0.seat) id Publish k.sound (me.0.seat, at_map seat_of s.views id me.0 at, can, refl));
-        }
+  -- each head names the chunk of its entry
+  named_more : (i : ℕ) → i < length (k.heads ++ c ∷ []) → get_or (set s.words (2 + me.0.seat.known) (suc c)) (2 + i) 0 ≡ suc (get_or (k.heads ++ c ∷ []) i 0)
+  named_more i less =
+      let al = all in
+      let mh = many_heads in
+      let count = k.count in
+      dite (ℕ_discrete i me.0.seat.known)
+      (λ here. subst (λ (n : ℕ). get_or (set s.words (2 + me.0.seat.known) (suc c)) (2 + n) 0 ≡ suc (get_or (k.heads ++ c ∷ []) n 0)) (sym here) (get_or-set_same s.words (2 + me.0.seat.known) (suc c) 0 room ∙ ap suc (sym new_head)))
+      (λ other. let less' : i < length k.heads = omega arith in get_or-set_other s.words (2 + me.0.seat.known) (2 + i) (suc c) 0 (λ same. other (omega arith)) ∙ k.named i less' ∙ ap suc (sym (old_head i (omega arith))))
 
-    -- the list is legal
-    legal : Legal me.0.setting.problem (posted me.0).list
-    legal = subst (λ (x : Setting × List Entry). Legal x.0.problem x.1) (λ i. (sym is i, sym (f.list ∙ take_all k.entries me.0.seat.known all) i ++ made me.0 ∷ [])) kept.sound.legal
+  -- no chunk has two owners
+  apart_more : (d : ℕ) → held d (k.heads ++ c ∷ []) (set s.views id (posted me.0)) ≤ 1
+  apart_more d =
+      let al = all in
+      let h = count_held d in
+      let a = k.apart d in
+      let b = k.bound d in
+      ⊎_elim
+      (λ (t : (d ≡ p.workers + me.0.seat.known) × (times d ((p.workers + me.0.seat.known) ∷ []) ≡ 1)).
+      let n = t.0 in
+      let o = t.1 in
+      dite (dec_le 1 (held d k.heads s.views)) (λ some_held. let x = b (omega arith) in absurd (omega arith)) (λ none_held. omega arith))
+      (λ t. let o = t.1 in omega arith)
+      (times_one d (p.workers + me.0.seat.known))
+
+  -- each is one of the first
+  bound_more : (d : ℕ) → 0 < held d (k.heads ++ c ∷ []) (set s.views id (posted me.0)) → d < p.workers + length (k.entries ++ made me.0 ∷ [])
+  bound_more d some_held =
+      let al = all in
+      let mn = many in
+      let h = count_held d in
+      let b = k.bound d in
+      ⊎_elim
+      (λ (t : (d ≡ p.workers + me.0.seat.known) × (times d ((p.workers + me.0.seat.known) ∷ []) ≡ 1)). let n = t.0 in omega arith)
+      (λ t. let o = t.1 in let x = b (omega arith) in omega arith)
+      (times_one d (p.workers + me.0.seat.known))
+
+  -- the words of each entry lie in its chunk
+  spelled_more : (i : ℕ) (x : Entry) → get_elem? (k.entries ++ made me.0 ∷ []) i ≡ some x
+      → Lies (set s.words (2 + me.0.seat.known) (suc c)) (body p (get_or (k.heads ++ c ∷ []) i 0)) (words_of x) × (length (words_of x) ≤ top p + 8)
+  spelled_more i x there = ⊎_elim
+      (λ old.
+      let t = k.spelled i x old in
+      let less = below k.entries i x old in
+      (subst (λ (n : ℕ). Lies (set s.words (2 + me.0.seat.known) (suc c)) (body p n) (words_of x)) (sym (old_head i less)) (moves (get_or k.heads i 0) (words_of x) t.0), t.1))
+      (λ (last : (i ≡ length k.entries) × (made me.0 ≡ x)).
+      let here : get_or (k.heads ++ c ∷ []) i 0 ≡ c = ap (λ (n : ℕ). get_or (k.heads ++ c ∷ []) n 0) (last.0 ∙ sym all) ∙ new_head in
+      let lies : Lies s.words (body p c) (words_of (made me.0)) = subst (Lies s.words (body p c)) draft_is (f.draft c cs chunks) in
+      subst (λ (y : Entry). Lies (set s.words (2 + me.0.seat.known) (suc c)) (body p (get_or (k.heads ++ c ∷ []) i 0)) (words_of y) × (length (words_of y) ≤ top p + 8)) last.1
+      (subst (λ (n : ℕ). Lies (set s.words (2 + me.0.seat.known) (suc c)) (body p n) (words_of (made me.0))) (sym here) (moves c (words_of (made me.0)) lies), long))
+      (at_snoc k.entries (made me.0) x i there)
+
+  -- the state is that after the event Publish, which is sound
+  sound_more : IsSound (shown_by p (k.entries ++ made me.0 ∷ []) (record { words = set s.words (2 + me.0.seat.known) (suc c); homes = s.homes; views = set s.views id (posted me.0) }))
+  sound_more = subst IsSound (λ i. record {
+    problem = p.problem;
+    workers = p.workers;
+    entries = (k.entries ++ (sym made_is i) ∷ []);
+    corner = sym (get_or-set_other s.words (2 + me.0.seat.known) 0 (suc c) 0 (λ same. omega arith)) i;
+    ticket = sym (get_or-set_other s.words (2 + me.0.seat.known) 1 (suc c) 0 (λ same. omega arith)) i;
+    seats = (ap (set (map seat_of s.views) id) seat_is ∙ sym (map-set seat_of s.views id (posted me.0))) i;
+  }) (laws.0 (shown_by p k.entries s) (after_publish (shown_by p k.entries s) id me.0.seat) id Publish k.sound (me.0.seat, at_map seat_of s.views id me.0 at, can, refl))
+
+  -- the rule holds afterwards
+  kept : Kept p (record { words = set s.words (2 + me.0.seat.known) (suc c); homes = s.homes; views = set s.views id (posted me.0) })
+  kept =
+      let few = k.few in
+      let al = all in
+      let mn = many in
+      let mh = many_heads in
+      let lw = place.1 in
+      let count = k.count in
+      record {
+        entries = (k.entries ++ made me.0 ∷ []);
+        heads = (k.heads ++ c ∷ []);
+        size = length-set s.words (2 + me.0.seat.known) (suc c) ∙ k.size;
+        few = omega arith;
+        count = omega arith;
+        named = named_more;
+        blank = λ i le top. get_or-set_other s.words (2 + me.0.seat.known) (2 + i) (suc c) 0 (λ same. omega arith) ∙ k.blank i (omega arith) top;
+        apart = apart_more;
+        bound = bound_more;
+        spelled = spelled_more;
+        views = λ i u there. ⊎_elim
+            (λ (t : (i ≡ id) × ((posted me.0) ≡ u)). inr (subst (Fits p (k.entries ++ made me.0 ∷ []) (k.heads ++ c ∷ []) (set s.words (2 + me.0.seat.known) (suc c))) t.1 fit_posted))
+            (λ (t : (i ≢ id) × (get_elem? s.views i ≡ some u)). ⊎_elim (λ spent. inl spent) (λ g. inr (fit_more u (known_at p s k i u t.1) g)) (k.views i u t.1))
+            (at_set s.views id i (posted me.0) u there);
+        sound = sound_more;
+      }
+
+  -- the list is legal
+  legal : Legal me.0.setting.problem (posted me.0).list
+  legal = subst (λ (x : Setting × List Entry). Legal x.0.problem x.1) (λ i. (sym is i, sym (f.list ∙ take_all k.entries me.0.seat.known all) i ++ made me.0 ∷ [])) sound_more.legal
+
+  -- where the head is empty
+  pub posts_taken : TakesHead p slots id me c s
+  posts_taken = (
+    posted me.0,
+    keeps,
+    tt,
+    subst (λ (n : ℕ). Kept p (record { words = set s.words (2 + me.0.seat.known) n; homes = s.homes; views = set s.views id (posted me.0) })) (sym word) kept,
+    (refl, (λ _. (refl, subst (λ (q : Setting). me.0.seat.known < top q) (sym is) place.1, legal)), (λ miss. absurd (miss hit))),
+  )
 
 -- the exchange of the head behind the known entries
 pub posts : Law × OpenLaw × PlaceLaw → (p : Setting) (slots id : ℕ) (me : Me) (c : ℕ) (cs : List ℕ) → me.0.setting ≡ p → me.0.seat.numbers ≢ [] → IsStuck me.0 → me.0.chunks ≡ c ∷ cs → me.0.seat.known ≤ top p
