@@ -13,7 +13,7 @@ use Rattle.mora_law.specs.Items.{item_of, item_for}
 use Rattle.mora_law.proofs.Items.{tickets_up, tickets_is, item_fits}
 use Rattle.mora_law.proofs.Ring.{ranks_count, count_is}
 use Rattle.mora_form.specs.State.{State as MoraState, HasRun, Knows}
-use Rattle.run_core.specs.declared.plain_worker.PlainWorker.{PlainWorker}
+use Rattle.run_core.specs.declared.workspace.Workspace.{Workspace}
 use Rattle.run_core.specs.Hand.{end_of, is_open, is_skipped, is_zero, has_open}
 use Rattle.run_core.specs.State.{count_of}
 use Rattle.run_core.specs.Plain.{Plain, plain, plain_seat, is_working}
@@ -26,11 +26,11 @@ pub item_is : (Q P : Problem) (gens : List Polynomial) (n k : ℕ) (item : Item)
 item_is Q P gens n k item e all count is = is ∙ ap (λ m. item_of m k) (count ∙ ap length all ∙ length-map Q.gens (in_variables Q.n) ∙ ap (λ (p : Problem). length p.gens) e)
 
 -- and is skipped where the item that was told is
-pub skipped_is : (Q P : Problem) (known entries : List Entry) (item : Item) (k : ℕ) (b : Bool) → Q ≡ P → known ≡ entries → item ≡ item_for P k → b ≡ is_skipped Q known item →
+pub skipped_is : (Q P : Problem) (entries : List Entry) (item : Item) (k : ℕ) (b : Bool) → Q ≡ P → item ≡ item_for P k → b ≡ is_skipped Q entries item →
     is_skipped P entries (item_for P k) ≡ b
-skipped_is Q P known entries item k b e l i s = ap (is_skipped P entries) (sym i) ∙ ap (λ l. is_skipped P l item) (sym l) ∙ ap (λ p. is_skipped p known item) (sym e) ∙ sym s
+skipped_is Q P entries item k b e i s = ap (is_skipped P entries) (sym i) ∙ ap (λ p. is_skipped p entries item) (sym e) ∙ sym s
 
-module _ (b : Plain) (w : PlainWorker) (k : ℕ) (p : IsProblem b.problem) (h : HasClaimed b w k) where
+module _ (b : Plain) (w : Workspace) (k : ℕ) (p : IsProblem b.problem) (h : HasClaimed b w k) where
   -- the number of the entries is small
   entries_small : length b.entries ≤ 4096
   entries_small = le_trans (few b.problem h.sound.problem b.entries h.sound.legal) p.monomials
@@ -67,6 +67,7 @@ module _ (b : Plain) (w : PlainWorker) (k : ℕ) (p : IsProblem b.problem) (h : 
       leads = h.holds.leads;
       shape = h.holds.shape;
       cover = h.holds.cover;
+      room = h.holds.room;
     };
     opened = ap (λ (x : MoraState). x.is_open) value;
     moving = λ e. absurd (cc (sym (ap (λ (x : MoraState). x.end) value) ∙ e));

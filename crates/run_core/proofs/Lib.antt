@@ -23,6 +23,7 @@ pub mod Copies
 pub mod Room
 pub mod Learnable
 pub mod Learned
+pub mod Running
 pub mod Working
 pub mod Publishing
 pub mod Claimed

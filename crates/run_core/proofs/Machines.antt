@@ -26,7 +26,7 @@ use Rattle.mora_law.proofs.Items.{tickets_is, tickets_up}
 use Rattle.mora_law.proofs.Corners.{corner_is_of_leads}
 use Rattle.mora_law.proofs.Problems.{monic}
 use Rattle.mora_form.specs.State.{draft_of as draft_of_run}
-use Rattle.run_core.specs.declared.plain_worker.PlainWorker.{PlainWorker}
+use Rattle.run_core.specs.declared.workspace.Workspace.{Workspace}
 use Rattle.run_core.specs.Hand.{Hand, draft, draft_terms, hand_end, read, reads_of, but_stuck, more_reads}
 use Rattle.run_core.specs.State.{Seat, State, IsAt, known_by, is_busy, steps_of}
 use Rattle.run_core.specs.Effects.{draft_by, read_corner, cornered, after_corner, shown, after_publish, kept, given, after_split}
@@ -112,7 +112,7 @@ pub hand_known : (s : State) (i : ℕ) → IsSound s → i < length s.seats → 
 hand_known s i ok l h e = let mine = ok.seats i (seat_at s i) (seat_there s i l) in
     record { legal = ok.legal; within = mine.known; word = s.corner; ticket = s.ticket; sound = mine.hand h e }
 
-module _ (P : Problem) (known : List Entry) (o : Option Hand) (w : PlainWorker) (a : IsAtWork P known o w) where
+module _ (P : Problem) (known : List Entry) (o : Option Hand) (w : Workspace) (a : IsAtWork P known o w) where
   -- the hand's run ends as that of the worker
   pub end_is : hand_end P known o ≡ w.mora.end
   end_is = ap (hand_end P known) a.is ∙ sym (replayed_end P known a.hand w a.run)
@@ -148,7 +148,7 @@ last_at (x ∷ []) d known l e = cc
 last_at (x ∷ y ∷ ys) d known l e = last_at (y ∷ ys) d x.known (omega arith) (let z : length (x ∷ y ∷ ys) - 1 ≡ suc (length (y ∷ ys) - 1) = omega arith in subst (λ n. slice_get (x ∷ y ∷ ys) n ≡ Some d) z e)
 
 -- the test of Publish by the worker
-pub publish_is : (s : State) (v : Seat) (w : PlainWorker) → IsAtWork s.problem (known_by s v) v.hand w → (b : Bool) →
+pub publish_is : (s : State) (v : Seat) (w : Workspace) → IsAtWork s.problem (known_by s v) v.hand w → (b : Bool) →
     b ≡ (eqb v.known (length s.entries) && (is_stuck w.mora.end && eqb (last_known 0 w.mora.reads) v.known)) → b ≡ publish_test s v
 publish_is s v w a b e =
     e ∙ ap₂ (λ x l. eqb v.known (length s.entries) && (is_stuck x && eqb (last_known 0 l) v.known)) (sym (end_is s.problem (known_by s v) v.hand w a)) (sym (reads_are s.problem (known_by s v) v.hand w a))
@@ -165,7 +165,7 @@ can_publish_is s v e =
     (a.0, eqb-true v.known (length s.entries) b.0, stuck_end (hand_end s.problem (known_by s v) v.hand) c.0, eqb-true (last_known 0 (reads_of v.hand)) v.known c.1)
 
 -- a run has few readings
-pub reads_small : (s : State) (i : ℕ) → IsSound s → IsProblem s.problem → i < length s.seats → (w : PlainWorker) → IsAtWork s.problem (known_by s (seat_at s i)) (seat_at s i).hand w → length w.mora.reads ≤ 4097
+pub reads_small : (s : State) (i : ℕ) → IsSound s → IsProblem s.problem → i < length s.seats → (w : Workspace) → IsAtWork s.problem (known_by s (seat_at s i)) (seat_at s i).hand w → length w.mora.reads ≤ 4097
 reads_small s i ok p l w a =
     let v = seat_at s i in
     let few = hand_room s.problem s.corner s.ticket (known_by s v) a.hand ok.problem ((ok.seats i v (seat_there s i l)).hand a.hand a.is) in
@@ -202,11 +202,11 @@ hand_at s t u v e f k h is =
     subst (λ (x : State). IsKnownHand x.problem x.entries u.known h) (sym e) (subst (λ (z : Seat). IsKnownHand s.problem s.entries z.known h) (sym f) (k h (ap (λ (z : Seat). z.hand) (sym f) ∙ is)))
 
 -- the work of a seat that is read
-pub work_at : (s t : State) (u v : Seat) (w : PlainWorker) → t ≡ s → u ≡ v → IsAtWork t.problem (take u.known t.entries) u.hand w → IsAtWork s.problem (known_by s v) v.hand w
+pub work_at : (s t : State) (u v : Seat) (w : Workspace) → t ≡ s → u ≡ v → IsAtWork t.problem (take u.known t.entries) u.hand w → IsAtWork s.problem (known_by s v) v.hand w
 work_at s t u v w e f a = subst (λ (x : State). IsAtWork x.problem (take v.known x.entries) v.hand w) e (subst (λ (z : Seat). IsAtWork t.problem (take z.known t.entries) z.hand w) f a)
 
 -- a seat is busy exactly where there is work
-pub busy_by : (s : State) (v : Seat) (o : Option PlainWorker) (b : Bool) → b ≡ is_some o → (o ≡ None → is_busy s v ≡ false) → ((w : PlainWorker) → o ≡ Some w → IsAtWork s.problem (known_by s v) v.hand w) → b ≡ is_busy s v
+pub busy_by : (s : State) (v : Seat) (o : Option Workspace) (b : Bool) → b ≡ is_some o → (o ≡ None → is_busy s v ≡ false) → ((w : Workspace) → o ≡ Some w → IsAtWork s.problem (known_by s v) v.hand w) → b ≡ is_busy s v
 busy_by s v None b e idle works = e ∙ sym (idle refl)
 busy_by s v (Some w) b e idle works = e ∙ sym (works w refl).opened
 

@@ -1,14 +1,14 @@
 -- The one worker publishes the entry of its hand.
 -- The draft of the run is that of the hand, and a hand whose entry is published is done with.
-use Rattle.std.proofs.Common.{◌≡◌, ◌<◌, false, [], ◌∷◌, ◌++◌, length, refl, sym, ap, ◌∙◌, arith}
+use Rattle.std.proofs.Common.{◌≡◌, ◌<◌, false, [], ◌∷◌, ◌++◌, length, refl, ap, ◌∙◌, arith}
 use Rattle.sparse_poly.specs.Ideal.{IsProblem}
 use Rattle.mora_law.specs.declared.step_end.StepEnd.TheVariants.{Stuck}
 use Rattle.mora_law.specs.Run.{last_known}
 use Rattle.mora_law.proofs.Ring.{ranks_count, count_is}
 use Rattle.mora_form.specs.State.{State as MoraState, draft_of as draft_of_run}
 use Rattle.run_core.specs.declared.event.Event.TheVariants.{Publish}
-use Rattle.run_core.specs.declared.plain_worker.PlainWorker.{PlainWorker}
-use Rattle.run_core.specs.Hand.{draft, draft_terms, reads_of, has_open, marked, is_open}
+use Rattle.run_core.specs.declared.workspace.Workspace.{Workspace}
+use Rattle.run_core.specs.Hand.{reads_of, has_open, marked, is_open}
 use Rattle.run_core.specs.Sound.{IsSound}
 use Rattle.run_core.specs.Makes.{Makes}
 use Rattle.run_core.specs.Plain.{Plain, plain, plain_seat, plain_draft, plain_published, is_working}
@@ -16,13 +16,13 @@ use Rattle.run_core.specs.Work.{IsInHand, HasRunTo}
 use Rattle.run_core.proofs.Keeps.{keeps_sound}
 use Rattle.run_core.proofs.Plain.{plain_can_publish, plain_publishes}
 use Rattle.run_core.proofs.Room.{draft_room}
+use Rattle.run_core.proofs.Running.{draft_alike}
 
 -- the entry of the run is that of the hand
 pub draft_is : (b : Plain) (m : MoraState) → IsInHand b m → draft_of_run b.problem b.entries m.item m.reads ≡ plain_draft b
-unfolding draft_terms
-draft_is b m h = ap (λ i. draft_of_run b.problem b.entries i m.reads) h.item ∙ sym (ap (draft b.problem b.entries) h.hand)
+draft_is b m h = draft_alike b.problem b.entries h.ticket m b.hand h.item h.hand
 
-module _ (b : Plain) (w : PlainWorker) (r : HasRunTo b w Stuck) where
+module _ (b : Plain) (w : Workspace) (r : HasRunTo b w Stuck) where
   -- the hand's run is over the whole list
   pub last : last_known 0 (reads_of b.hand) ≡ length b.entries
   last = ap (λ o. last_known 0 (reads_of o)) r.hand.hand ∙ r.last

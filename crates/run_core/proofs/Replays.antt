@@ -20,7 +20,7 @@ use Rattle.mora_law.specs.Start.{run}
 use Rattle.mora_law.proofs.Growth.{run_over_more}
 use Rattle.mora_law.proofs.Orderly.{known_le}
 use Rattle.mora_form.specs.State.{State as MoraState, HasRun, Knows, IsOver, recorded}
-use Rattle.run_core.specs.declared.plain_worker.PlainWorker.{PlainWorker}
+use Rattle.run_core.specs.declared.workspace.Workspace.{Workspace}
 use Rattle.run_core.specs.Hand.{Hand, end_of, is_skipped, is_zero, is_open}
 use Rattle.run_core.specs.State.{count_of}
 use Rattle.run_core.specs.Work.{Holds}
@@ -30,13 +30,13 @@ use Rattle.run_core.proofs.Seats.{take_prefix}
 use Rattle.run_core.proofs.Working.{recorded_all}
 
 -- the worker v knows the first k entries, and its run is that of w
-pub record HasLearnt (P : Problem) (entries : List Entry) (w : PlainWorker) (k : ℕ) (v : PlainWorker) : Type 0 where
+pub record HasLearnt (P : Problem) (entries : List Entry) (w : Workspace) (k : ℕ) (v : Workspace) : Type 0 where
   pub holds : Holds P (take k entries) v
   pub run : HasRun P (take (length w.mora.known) entries) w.mora → HasRun P (take k entries) v.mora
   pub same : v.mora ≡ record w.mora { known = v.mora.known }
 
 -- one entry more
-pub learnt_next : (P : Problem) (entries : List Entry) (w : PlainWorker) (k : ℕ) (v u : PlainWorker) → HasLearnt P entries w k v → Holds P (take (suc k) entries) u →
+pub learnt_next : (P : Problem) (entries : List Entry) (w : Workspace) (k : ℕ) (v u : Workspace) → HasLearnt P entries w k v → Holds P (take (suc k) entries) u →
     (HasRun P (take k entries) v.mora → HasRun P (take (suc k) entries) u.mora) → u.mora ≡ record v.mora { known = u.mora.known } → HasLearnt P entries w (k + 1) u
 learnt_next P entries w k v u h holds run same =
     let z : suc k ≡ k + 1 = omega arith in
@@ -110,7 +110,7 @@ module _ (P : Problem) (entries : List Entry) (known : ℕ) (h : Hand) (ok : IsK
       go (x ∷ xs) e = subst (λ n. h.ticket < tickets P n) (sym (some x xs e)) (ok.sound.begun x xs e).0
 
   -- the worker after the start of the run
-  pub begun : (first : ℕ) (w : PlainWorker) (item : Item) (m : MoraState) → first ≤ known → length w.mora.known ≡ first → Holds P (take first entries) w →
+  pub begun : (first : ℕ) (w : Workspace) (item : Item) (m : MoraState) → first ≤ known → length w.mora.known ≡ first → Holds P (take first entries) w →
       m ≡ record w.mora { is_open = true; item = item; reads = []; end = None; poly = m.poly; kept = [] } → item ≡ item_for P h.ticket → HasRun P (take first entries) m →
       ((d : Reading) → slice_get h.reads 0 ≡ Some d → first ≤ d.known) → IsRun P entries known h 0 (record w { mora = m })
   begun first w item m l count holds value is runs next =
@@ -124,6 +124,7 @@ module _ (P : Problem) (entries : List Entry) (known : ℕ) (h : Hand) (ok : IsK
           leads = holds.leads;
           shape = holds.shape;
           cover = holds.cover;
+          room = holds.room;
         });
         run = subst (λ k. HasRun P (take k entries) m) (sym n) runs;
         item = ap (λ (x : MoraState). x.item) value ∙ is;
@@ -133,8 +134,8 @@ module _ (P : Problem) (entries : List Entry) (known : ℕ) (h : Hand) (ok : IsK
         next = λ d e. let t = next d e in omega (arith, n, t);
       }
 
-  module _ (i : ℕ) (w : PlainWorker) (r : IsRun P entries known h i w) (d : Reading) (at : slice_get h.reads i ≡ Some d) (l : i < length h.reads)
-      (v : PlainWorker) (learnt : HasLearnt P entries w d.known v) where
+  module _ (i : ℕ) (w : Workspace) (r : IsRun P entries known h i w) (d : Reading) (at : slice_get h.reads i ≡ Some d) (l : i < length h.reads)
+      (v : Workspace) (learnt : HasLearnt P entries w d.known v) where
     -- so many entries are known when the reading is made again
     pub count : length v.mora.known ≡ d.known
     count = learnt.holds.knows.all ∙ length-take-le d.known entries (le_trans (reading_within i d at) ok.within)
@@ -187,6 +188,7 @@ module _ (P : Problem) (entries : List Entry) (known : ℕ) (h : Hand) (ok : IsK
               leads = learnt.holds.leads;
               shape = learnt.holds.shape;
               cover = learnt.holds.cover;
+              room = learnt.holds.room;
             });
             run = subst (λ k. HasRun P (take k entries) m) (sym n) more;
             item = item_is;
@@ -197,7 +199,7 @@ module _ (P : Problem) (entries : List Entry) (known : ℕ) (h : Hand) (ok : IsK
           }
 
   -- once all readings are made again, and the other entries are learnt
-  pub replayed : (w v : PlainWorker) → IsRun P entries known h (length h.reads) w → HasLearnt P entries w known v → IsReplayed P (take known entries) h v
+  pub replayed : (w v : Workspace) → IsRun P entries known h (length h.reads) w → HasLearnt P entries w known v → IsReplayed P (take known entries) h v
   replayed w v r learnt = record {
     holds = learnt.holds;
     run = learnt.run r.run;
@@ -206,12 +208,12 @@ module _ (P : Problem) (entries : List Entry) (known : ℕ) (h : Hand) (ok : IsK
   }
 
 -- the run of a hand ends as that of the worker
-pub replayed_end : (P : Problem) (known : List Entry) (h : Hand) (w : PlainWorker) → IsReplayed P known h w → w.mora.end ≡ end_of P known h.ticket h.reads
+pub replayed_end : (P : Problem) (known : List Entry) (h : Hand) (w : Workspace) → IsReplayed P known h w → w.mora.end ≡ end_of P known h.ticket h.reads
 unfolding end_of
 replayed_end P known h w r = r.run.run.end ∙ ap (λ x. (run P known x w.mora.reads).end) r.item ∙ ap (λ ds. (run P known (item_for P h.ticket) ds).end) r.reads
 
 -- whether there is work at a hand that has no mark
-pub left_is_open : (P : Problem) (known : List Entry) (h : Hand) (w : PlainWorker) (item : Item) (b : Bool) → h.published ≡ false → item ≡ item_for P h.ticket → IsReplayed P known h w →
+pub left_is_open : (P : Problem) (known : List Entry) (h : Hand) (w : Workspace) (item : Item) (b : Bool) → h.published ≡ false → item ≡ item_for P h.ticket → IsReplayed P known h w →
     b ≡ (not (is_skipped P known item) && not (is_zero w.mora.end)) → is_open P known h ≡ b
 unfolding is_open
 left_is_open P known h w item b new is r e =

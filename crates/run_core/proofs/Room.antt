@@ -5,6 +5,7 @@ use Rattle.std.proofs.lemmas.Bool.{cases_lt}
 use Rattle.std.proofs.lemmas.List.{get_or_at, length-take-le, take-take}
 use Rattle.rank_algebra.specs.Ranks.{Ranks, IsRanks}
 use Rattle.entry_code.specs.declared.reading.Reading.{Reading}
+use Rattle.entry_code.specs.declared.item.Item.{Item}
 use Rattle.entry_code.specs.Entry.{Entry, no_entry, entry_at}
 use Rattle.rank_algebra.specs.Vector.{Same, Vector, nothing, scale, Agree, cut_at}
 use Rattle.rank_algebra.specs.Division.{Basis}
@@ -20,7 +21,7 @@ use Rattle.mora_law.specs.Run.{steps, begin}
 use Rattle.mora_law.specs.Entries.{terms_of, monic_by, monic, basis_of}
 use Rattle.mora_law.proofs.Terms.{term_by, terms_from, terms_walk}
 use Rattle.mora_law.specs.Legal.{IsLegalEntry}
-use Rattle.mora_law.specs.Start.{start_of}
+use Rattle.mora_law.specs.Start.{start_of, run}
 use Rattle.mora_law.proofs.Choice.{some_same, lead_some}
 use Rattle.rank_algebra.proofs.Remainder.{cut_nothing}
 use Rattle.mora_law.proofs.Existence.{step_advances}
@@ -129,16 +130,21 @@ reduced_room R L entries (d ∷ ds) x m a l all =
     let h = reduced_room R L entries ds (step R entries x d) (suc m) ((step_advances R L entries x d m l a).more first) room (λ j p q. all (suc j) (omega arith) (omega arith)) in
     omega arith
 
--- a hand has at most N + 1 readings, of which at most N ended with Reduced
+-- a run whose steps but the last end with Reduced has at most N + 1 readings
+pub reads_room : (P : Problem) (known : List Entry) (item : Item) (reads : List Reading) → IsAdmissible P →
+    ((j : ℕ) → 0 < j → j < length reads → (run P known item (take j reads)).end ≡ Some Reduced) → length reads ≤ count_of P + 1
+reads_room P known item reads ok before =
+    let R : Ranks = ranks_of_problem P in
+    let start : Run = begin (start_of R (generators_of P) (basis_of known) item) in
+    let size = length-take-le (length reads - 1) reads (omega arith) in
+    let w = reduced_room R (ranks_are P ok) (basis_of known).member (take (length reads - 1) reads) start 0 (record { at = λ r l. absurd (omega arith) }) (omega arith)
+    (λ j l m. ap (λ ds. (steps R (basis_of known).member start ds).end) (take-take j (length reads - 1) reads (omega (arith, m, size))) ∙ before j l (omega (arith, l, m, size))) in
+    omega (arith, w, size)
+
+-- so a hand has at most N + 1 readings, of which at most N ended with Reduced
 pub hand_room : (P : Problem) (word ticket : ℕ) (known : List Entry) (h : Hand) → IsAdmissible P → IsHandSound P word ticket known h → length h.reads ≤ count_of P + 1
 unfolding end_of
-hand_room P word ticket known h ok s =
-    let R : Ranks = ranks_of_problem P in
-    let start : Run = begin (start_of R (generators_of P) (basis_of known) (item_for P h.ticket)) in
-    let size = length-take-le (length h.reads - 1) h.reads (omega arith) in
-    let w = reduced_room R (ranks_are P ok) (basis_of known).member (take (length h.reads - 1) h.reads) start 0 (record { at = λ r l. absurd (omega arith) }) (omega arith)
-    (λ j l m. ap (λ ds. (steps R (basis_of known).member start ds).end) (take-take j (length h.reads - 1) h.reads (omega (arith, m, size))) ∙ s.before j l (omega (arith, l, m, size))) in
-    omega (arith, w, size)
+hand_room P word ticket known h ok s = reads_room P known (item_for P h.ticket) h.reads ok s.before
 
 -- a run that is stuck has a reading
 some_reads : (R : Ranks) (entries : ℕ → Vector) (v : Vector) (ds : List Reading) → (steps R entries (begin v) ds).end ≡ Some Stuck → 0 < length ds

@@ -1,37 +1,32 @@
 -- A step of the one worker: the corner that it reads, and what holds after the step.
 -- The hand and the run have the same readings, and the run sees the whole list, so both end alike.
-use Rattle.std.proofs.Common.{◌≡◌, ◌≢◌, ℕ, zero, suc, ◌+◌, ◌≤◌, Bool, true, false, not, ◌&&◌, List, [], ◌∷◌, ◌++◌, length, map, take, Option, Some, None, refl, sym, ap, ◌∙◌, subst, arith, le_trans}
+use Rattle.std.proofs.Common.{◌≡◌, ◌≢◌, ℕ, zero, suc, ◌+◌, ◌≤◌, Bool, true, false, not, ◌&&◌, List, [], ◌∷◌, ◌++◌, length, take, Option, Some, None, refl, sym, ap, ◌∙◌, subst, arith, le_trans}
 use Rattle.std.specs.Prelude.{All}
-use Rattle.local_order.specs.Shape.{Shape}
-use Rattle.sparse_poly.specs.Shape.{shape_of}
-use Rattle.mono_rank.proofs.Corners.{one_corner}
 use Rattle.mono_rank.specs.Cover.{IsCorner}
 use Rattle.corner_word.specs.Marks.{IsCoverOf}
 use Rattle.entry_code.specs.declared.reading.Reading.{Reading}
-use Rattle.entry_code.specs.Entry.{Entry}
 use Rattle.rank_algebra.specs.Ranks.{Ranks}
 use Rattle.rank_algebra.specs.Division.{Basis}
 use Rattle.mora_law.specs.declared.step_end.StepEnd.{StepEnd}
 use Rattle.mora_law.specs.declared.step_end.StepEnd.TheVariants.{Zero, Reduced, Stuck}
 use Rattle.mora_law.specs.Ring.{ranks_of_problem}
-use Rattle.mora_law.specs.Entries.{lead_rank, corner, basis_of}
+use Rattle.mora_law.specs.Entries.{corner, basis_of}
 use Rattle.mora_law.specs.Items.{item_for}
 use Rattle.mora_law.specs.Legal.{HaveCorners}
 use Rattle.mora_law.specs.Start.{run}
 use Rattle.mora_law.specs.Run.{last_known}
 use Rattle.mora_law.proofs.Readings.{last_known_more}
-use Rattle.mora_law.proofs.Corners.{corner_is_of_leads}
-use Rattle.mora_law.proofs.Problems.{monic}
 use Rattle.mora_form.specs.State.{State as MoraState, HasRun, Knows, IsOver, recorded}
 use Rattle.run_core.specs.declared.event.Event.TheVariants.{Corner}
-use Rattle.run_core.specs.declared.plain_worker.PlainWorker.{PlainWorker}
-use Rattle.run_core.specs.Hand.{Hand, end_of, is_open, is_skipped, is_zero, has_open, hand_end, read, but_stuck, more_reads}
+use Rattle.run_core.specs.declared.workspace.Workspace.{Workspace}
+use Rattle.run_core.specs.Hand.{Hand, end_of, is_open, is_skipped, is_zero, has_open, hand_end, read, more_reads}
 use Rattle.run_core.specs.Sound.{IsSound}
 use Rattle.run_core.specs.Plain.{Plain, plain, plain_seat, plain_corner, plain_cornered, is_working}
 use Rattle.run_core.specs.Work.{Holds, IsInHand, IsRunning, HasRunTo, is_left}
 use Rattle.run_core.proofs.Learned.{few}
 use Rattle.run_core.specs.State.{count_of}
 use Rattle.run_core.proofs.Room.{hand_room}
+use Rattle.run_core.proofs.Running.{covered_corner, reads_alike}
 use Rattle.run_core.proofs.Keeps.{keeps_sound}
 use Rattle.run_core.proofs.Plain.{plain_reads}
 
@@ -48,13 +43,6 @@ recorded_all (Some Zero) ds n = refl
 recorded_all (Some Reduced) ds n = refl
 recorded_all (Some Stuck) ds n = absurd (n refl)
 
--- and so does its hand
-but_stuck_all : (e : Option StepEnd) (ds : List Reading) → e ≢ Some Stuck → but_stuck e ds ≡ ds
-but_stuck_all None ds n = refl
-but_stuck_all (Some Zero) ds n = refl
-but_stuck_all (Some Reduced) ds n = refl
-but_stuck_all (Some Stuck) ds n = absurd (n refl)
-
 -- a hand without mark that was open stays open unless its run ends with Zero
 still_open : (a b c : Bool) → (not a && (not b && not c)) ≡ true → (z : Bool) → (not a && (not b && not z)) ≡ not z
 still_open true b c e z = absurd (cc e)
@@ -67,15 +55,10 @@ left_is Zero = refl
 left_is Reduced = refl
 left_is Stuck = refl
 
-module _ (b : Plain) (w : PlainWorker) (r : IsRunning b w) where
+module _ (b : Plain) (w : Workspace) (r : IsRunning b w) where
   -- the corner of what is covered is that of the entries
   pub own_corner : (x : ℕ) → ((ls : List ℕ) → IsCoverOf ls w.cover → IsCorner w.cover.shape ls x) → x ≡ corner b.problem b.entries
-  own_corner x h =
-      let ranks : List ℕ = map (λ (e : Entry). lead_rank e.terms) b.entries in
-      let here : IsCorner (shape_of b.problem) ranks x =
-      subst (λ (T : Shape). IsCorner T ranks x) r.holds.shape (h ranks r.holds.cover) in
-      one_corner (shape_of b.problem) ranks x (corner b.problem b.entries) here
-      (corner_is_of_leads b.problem r.sound.problem b.entries (monic b.problem r.sound.problem b.entries r.sound.legal))
+  own_corner x h = covered_corner b.problem r.sound.problem b.entries r.sound.legal w r.holds x h
 
   -- the hand
   abbrev hand : Hand
@@ -92,11 +75,6 @@ module _ (b : Plain) (w : PlainWorker) (r : IsRunning b w) where
   pub known_small : length b.entries ≤ 4096
   known_small = le_trans (few b.problem r.sound.problem b.entries r.sound.legal) r.problem.monomials
 
-  -- the hand's run ends as the run
-  end_is : end_of b.problem b.entries r.hand.ticket w.mora.reads ≡ w.mora.end
-  unfolding end_of
-  end_is = sym (r.run.run.end ∙ ap (λ i. (run b.problem b.entries i w.mora.reads).end) r.hand.item)
-
   module _ (d : Reading) (is : d ≡ record { known = length b.entries; corner = plain_corner b }) (m : MoraState) (end : StepEnd)
       (value : m ≡ record w.mora { is_open = m.is_open; reads = recorded w.mora.end w.mora.reads ++ d ∷ []; end = m.end; poly = m.poly; kept = m.kept })
       (ended : m.end ≡ Some end) (more : HasRun b.problem b.entries m) where
@@ -106,8 +84,7 @@ module _ (b : Plain) (w : PlainWorker) (r : IsRunning b w) where
 
     -- and so has the hand
     hand_reads : more_reads b.problem b.entries hand d ≡ m.reads
-    unfolding more_reads
-    hand_reads = ap (λ l. l ++ d ∷ []) (but_stuck_all (end_of b.problem b.entries r.hand.ticket w.mora.reads) w.mora.reads (λ e. r.moving (sym end_is ∙ e))) ∙ sym reads_are
+    hand_reads = reads_alike b.problem b.entries r.hand.ticket w.mora r.hand.item r.run d ∙ ap (λ l. l ++ d ∷ []) (recorded_all w.mora.end w.mora.reads r.moving) ∙ sym reads_are
 
     -- the hand is that of the run
     in_hand : IsInHand (plain_cornered b) m
@@ -141,6 +118,7 @@ module _ (b : Plain) (w : PlainWorker) (r : IsRunning b w) where
       leads = r.holds.leads;
       shape = r.holds.shape;
       cover = r.holds.cover;
+      room = r.holds.room;
     }
 
     -- the state is sound
@@ -174,13 +152,13 @@ module _ (b : Plain) (w : PlainWorker) (r : IsRunning b w) where
     }
 
 -- a run has at most as many readings as there are monomials, and one more
-pub few_reads : (b : Plain) (w : PlainWorker) (e : StepEnd) → HasRunTo b w e → length w.mora.reads ≤ count_of b.problem + 1
+pub few_reads : (b : Plain) (w : Workspace) (e : StepEnd) → HasRunTo b w e → length w.mora.reads ≤ count_of b.problem + 1
 few_reads b w e r =
     let hand : Hand = record { ticket = r.hand.ticket; reads = w.mora.reads; published = false } in
     hand_room b.problem b.corner b.ticket (take (length b.entries) b.entries) hand r.sound.problem ((r.sound.seats 0 (plain_seat b) refl).hand hand r.hand.hand)
 
 -- what a run keeps from its first step on
-pub record GoesOn (b now : Plain) (w u : PlainWorker) (end : StepEnd) : Type 0 where
+pub record GoesOn (b now : Plain) (w u : Workspace) (end : StepEnd) : Type 0 where
   pub ended : u.mora.end ≡ Some end
   pub going : end ≡ Reduced → IsRunning now u
   pub run : HasRunTo now u end

@@ -12,9 +12,11 @@ mod plain_board;
 mod plain_run;
 mod plain_worker;
 mod replay;
+mod workspace;
 
 pub use core_state::CoreState;
 pub use counts::Counts;
 pub use event::Event;
-pub use plain_board::PlainBoard;
+pub use plain_board::{PlainBoard, copy_entry};
 pub use plain_run::{Finished, run_plain};
+pub use workspace::{Workspace, has_reduced, is_stuck};

@@ -12,9 +12,9 @@ ghost use Rattle.run_core.specs.SeatCode.{seat_at, found_at, claim_test, rest_te
 
 use crate::core_seat::CoreSeat;
 use crate::event::Event;
-use crate::plain_board::copy;
-use crate::plain_worker::PlainWorker;
+use crate::plain_board::copy_entry;
 use crate::replay::{at_work, is_publishable, more_reads};
+use crate::workspace::Workspace;
 use entry_code::{Entries, Reading, Reads};
 use local_order::monomial_count;
 use pair_queue::total;
@@ -99,11 +99,11 @@ impl Machine {
     }
 
     /// The worker with the run of the hand at a place, where that is open.
-    fn work(&self, i: usize) -> Result<Option<PlainWorker>, AllocError>
+    fn work(&self, i: usize) -> Result<Option<Workspace>, AllocError>
         requires sound { IsSound self.now }
         requires place { i < length self.now.seats }
         ensures none { result ≡ Ok None → is_busy self.now (seat_at self.now i) ≡ false }
-        ensures some { (w : PlainWorker) → result ≡ Ok (Some w) → IsAtWork self.now.problem (known_by self.now (seat_at self.now i)) (seat_at self.now i).hand w }
+        ensures some { (w : Workspace) → result ≡ Ok (Some w) → IsAtWork self.now.problem (known_by self.now (seat_at self.now i)) (seat_at self.now i).hand w }
     {
         let seat = &self.seats[i];
         at_work(
@@ -172,7 +172,7 @@ impl Machine {
     }
 
     /// Reads the corner.
-    fn do_read(&mut self, i: usize, worker: &PlainWorker) -> Result<(), AllocError>
+    fn do_read(&mut self, i: usize, worker: &Workspace) -> Result<(), AllocError>
         requires sound { IsSound self.old }
         requires place { i < length self.old.seats }
         requires work { IsAtWork self.old.problem (known_by self.old (seat_at self.old i)) (seat_at self.old i).hand worker.now }
@@ -234,7 +234,7 @@ impl Machine {
     }
 
     /// Whether the seat may publish the entry of its hand.
-    fn can_publish(&self, i: usize, worker: &PlainWorker) -> bool
+    fn can_publish(&self, i: usize, worker: &Workspace) -> bool
         requires sound { IsSound self.now }
         requires place { i < length self.now.seats }
         requires work { IsAtWork self.now.problem (known_by self.now (seat_at self.now i)) (seat_at self.now i).hand worker.now }
@@ -245,7 +245,7 @@ impl Machine {
     }
 
     /// Publishes it.
-    fn do_publish(&mut self, i: usize, worker: &PlainWorker) -> Result<(), AllocError>
+    fn do_publish(&mut self, i: usize, worker: &Workspace) -> Result<(), AllocError>
         requires sound { IsSound self.old }
         requires place { i < length self.old.seats }
         requires work { IsAtWork self.old.problem (known_by self.old (seat_at self.old i)) (seat_at self.old i).hand worker.now }
@@ -254,7 +254,7 @@ impl Machine {
         ensures err { OnErr result (self.new ≡ self.old) }
     {
         let _problem = self.problem.n();
-        let entry = copy(self.alloc, worker.mora.draft())?;
+        let entry = copy_entry(self.alloc, worker.mora.draft())?;
         let steps = worker.mora.readings().len().saturating_sub(1) as u64;
         self.entries.push(entry)?;
         let seat = &mut self.seats[i];

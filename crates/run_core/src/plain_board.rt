@@ -74,7 +74,7 @@ fn copy_terms(alloc: Global, from: &Terms) -> Result<Terms, AllocError>
 }
 
 /// A copy of the entry.
-pub(crate) fn copy(alloc: Global, entry: &Entry) -> Result<Entry, AllocError>
+pub fn copy_entry(alloc: Global, entry: &Entry) -> Result<Entry, AllocError>
     ensures { IfOk result (λ e. entry_of e ≡ entry_of entry.now) }
 {
     let reads = copy_reads(alloc, &entry.reads)?;
@@ -147,7 +147,7 @@ impl PlainBoard {
         ensures number { IfOk result (λ k. k ≡ length self.old.entries) }
         ensures err { OnErr result (self.new ≡ self.old) }
     {
-        let entry = copy(self.alloc, draft)?;
+        let entry = copy_entry(self.alloc, draft)?;
         let number = self.entries.len() as u32;
         self.entries.push(entry)?;
         self.hand = GhostHand::of(self);

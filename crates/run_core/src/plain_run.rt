@@ -7,7 +7,7 @@ ghost use Rattle.run_core.specs.Finished.{IsOneCount};
 
 use crate::counts::Counts;
 use crate::plain_board::PlainBoard;
-use crate::plain_worker::PlainWorker;
+use crate::workspace::Workspace;
 use entry_code::Entries;
 use sparse_poly::Problem;
 use std::alloc::{AllocError, Global};
@@ -29,7 +29,7 @@ pub fn run_plain(alloc: Global, problem: &Problem) -> Result<Finished, AllocErro
 {
     let _problem = problem.n();
     let mut board = PlainBoard::open(alloc, problem);
-    let mut worker = PlainWorker::open(alloc, problem)?;
+    let mut worker = Workspace::open(alloc, problem)?;
     let mut more = worker.turn(problem, &mut board)?;
     while more {
         more = worker.turn(problem, &mut board)?;

@@ -1,97 +1,35 @@
-//! What the one worker has of its own.
+//! What the one worker does at its board.
 
-ghost use Rattle.std.specs.Prelude.{◌≡◌, ◌≢◌, ◌<◌, ◌≤◌, ◌+◌, ◌-◌, ◌^◌, suc, [], take, length, true, false, Some, Ok, IsTrue, IfOk, OnOk};
+ghost use Rattle.std.specs.Prelude.{◌≡◌, ◌≢◌, ◌<◌, ◌≤◌, ◌+◌, ◌-◌, ◌^◌, suc, take, length, true, false, Some, Ok, OnOk};
 ghost use Rattle.mora_form.specs.State.{HasRun};
 ghost use Rattle.mora_law.specs.declared.step_end.StepEnd.TheVariants.{Reduced, Stuck};
-ghost use Rattle.mora_law.specs.Legal.{Legal, IsItemOf};
-ghost use Rattle.run_core.specs.Hand.{is_skipped};
+ghost use Rattle.mora_law.specs.Legal.{Legal};
 ghost use Rattle.mora_law.specs.Tickets.{total};
 ghost use Rattle.run_core.specs.State.{count_of};
 ghost use Rattle.run_core.specs.Plain.{plain_cornered, plain_published};
 ghost use Rattle.run_core.specs.Work.{Holds, IsRunning, HasRunTo, IsReady, HasCounted, HasClaimed};
 
 use crate::plain_board::PlainBoard;
-use corner_word::Cover;
-use entry_code::{Entries, Item, Reading};
-use local_order::Mono;
-use mono_rank::{RankError, RankTable};
-use mora_form::Mora;
+use crate::workspace::{Workspace, has_reduced, is_stuck};
+use entry_code::{Entries, Reading};
 use mora_law::StepEnd;
-use pair_queue::{item_of, skip};
+use pair_queue::item_of;
 use sparse_poly::Problem;
-use std::alloc::{AllocError, Global};
+use std::alloc::AllocError;
 
-/// The ranks of the monomials, the run with the entries that it knows, the leads of these entries and what they cover, and how many
-/// steps have reduced.
-#[derive(Drop)]
-pub(crate) struct PlainWorker {
-    pub(crate) table: RankTable,
-    pub(crate) mora: Mora,
-    pub(crate) cover: Cover,
-    pub(crate) leads: Vec<Mono>,
-    pub(crate) reductions: u64,
-}
-
-impl PlainWorker {
-    /// A worker that knows no entries.
-    pub(crate) fn open(alloc: Global, problem: &Problem) -> Result<PlainWorker, AllocError>
-        ensures holds { IfOk result (Holds problem.now []) }
-        ensures none { IfOk result (λ w. w.reductions ≡ 0) }
-    {
-        // A problem is within its limits, which its field is lent with.
-        let _field = problem.field();
-        let table = match RankTable::new(alloc, problem.n(), problem.d()) {
-            Ok(table) => table,
-            Err(RankError::Memory) => return Err(AllocError),
-            Err(RankError::TooManyMonomials(_)) => unreachable!(),
-        };
-        let mora = Mora::open(alloc, &table, *problem.field())?;
-        let cover = Cover::new(alloc, &table)?;
-        Ok(PlainWorker {
-            table,
-            mora,
-            cover,
-            leads: Vec::new(alloc),
-            reductions: 0,
-        })
-    }
-
-    /// Learns the next entry of a legal list.
-    pub(crate) fn learn(
-        &mut self,
-        problem: &Problem,
-        entries: &Entries,
-        number: usize,
-    ) -> Result<(), AllocError>
+impl Workspace {
+    /// Learns the entry at a place of a legal list, which is the next one.
+    pub(crate) fn learn_at(&mut self, problem: &Problem, entries: &Entries, number: usize)
         requires next { number < length entries.now }
         requires legal { Legal problem.now entries.now }
         requires holds { Holds problem.now (take number entries.now) self.old }
-        ensures holds { OnOk result (Holds problem.now (take (suc number) entries.now) self.new) }
-        ensures run { OnOk result (HasRun problem.now (take number entries.now) self.old.mora → HasRun problem.now (take (suc number) entries.now) self.new.mora) }
+        ensures holds { Holds problem.now (take (suc number) entries.now) self.new }
+        ensures run { HasRun problem.now (take number entries.now) self.old.mora → HasRun problem.now (take (suc number) entries.now) self.new.mora }
         ensures mora { self.new.mora ≡ record self.old.mora { known = self.new.mora.known } }
         ensures count { self.new.reductions ≡ self.old.reductions }
     {
         let _problem = problem.n();
-        let entry = entries.get(number);
-        let lead = entry.terms.get(0).rank;
-        self.leads.push(self.table.mono(lead))?;
-        self.mora.learn(&self.table, entry);
-        self.cover.add(&self.table, lead);
-        Ok(())
-    }
-
-    /// Whether the pair of an item is skipped.
-    pub(crate) fn skips(&self, problem: &Problem, entries: &Entries, item: Item) -> bool
-        requires item { IsItemOf (length problem.now.gens) (length entries.now) item }
-        requires legal { Legal problem.now entries.now }
-        requires holds { Holds problem.now entries.now self.now }
-        ensures { result ≡ is_skipped problem.now entries.now item }
-    {
-        let _problem = problem.n();
-        match item {
-            Item::Generator(_) => false,
-            Item::Pair(i, j) => skip(&self.leads, i, j).is_some(),
-        }
+        self.learn(problem, entries.get(number));
     }
 
     /// Reads the corner, and makes one step by it.
@@ -143,7 +81,8 @@ impl PlainWorker {
     {
         let _problem = problem.n();
         let number = board.publish(self.mora.draft())?;
-        self.learn(problem, board.entries(), number as usize)
+        self.learn_at(problem, board.entries(), number as usize);
+        Ok(())
     }
 
     /// Carries the ticket that was claimed to its end.
@@ -162,7 +101,7 @@ impl PlainWorker {
         ensures ticket { OnOk result (board.new.ticket ≡ board.old.ticket) }
     {
         let item = item_of(problem.gens().len() as u32, ticket);
-        if self.skips(problem, board.entries(), item) {
+        if self.skips(problem, item) {
             return Ok(());
         }
         self.mora.start(&self.table, problem, item);
@@ -196,20 +135,4 @@ impl PlainWorker {
         self.work(problem, board, ticket)?;
         Ok(true)
     }
-}
-
-/// Whether a step reduced.
-fn has_reduced(end: StepEnd) -> bool
-    ensures yes { IsTrue result → end ≡ Reduced }
-    ensures no { result ≡ false → end ≢ Reduced }
-{
-    matches!(end, StepEnd::Reduced)
-}
-
-/// Whether a step was stuck.
-fn is_stuck(end: StepEnd) -> bool
-    ensures yes { IsTrue result → end ≡ Stuck }
-    ensures no { result ≡ false → end ≢ Stuck }
-{
-    matches!(end, StepEnd::Stuck)
 }

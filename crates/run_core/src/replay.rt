@@ -1,6 +1,6 @@
 //! The run of a hand, made again from its readings.
 
-ghost use Rattle.std.specs.Prelude.{◌≡◌, ◌==◌, ◌+◌, ◌<◌, ◌≤◌, ◌&&◌, not, true, false, take, List, [], ◌∷◌, ◌++◌, length, Option, Some, None, Ok, IfOk, OnOk};
+ghost use Rattle.std.specs.Prelude.{◌≡◌, ◌==◌, ◌+◌, ◌<◌, ◌≤◌, ◌&&◌, not, true, false, take, List, [], ◌∷◌, ◌++◌, length, Option, Some, None, Ok, IfOk};
 ghost use Rattle.entry_code.specs.declared.reading.Reading.{Reading as ReadingRecord};
 ghost use Rattle.mora_law.specs.Run.{last_known};
 ghost use Rattle.mora_law.specs.Legal.{Legal, IsItemOf};
@@ -11,47 +11,26 @@ ghost use Rattle.run_core.specs.Work.{Holds};
 ghost use Rattle.run_core.specs.Replay.{IsKnownHand, IsRun, IsReplayed, IsAtWork};
 
 use crate::core_seat::CoreHand;
-use crate::plain_worker::PlainWorker;
+use crate::workspace::Workspace;
 use entry_code::{Entries, Item, Reading, Reads};
 use mora_law::StepEnd;
-use pair_queue::{item_of, skip};
+use pair_queue::item_of;
 use sparse_poly::Problem;
 use std::alloc::{AllocError, Global};
 
-impl PlainWorker {
+impl Workspace {
     /// Learns the entries of a legal list up to a number of them. The run stays.
-    fn learn_to(
-        &mut self,
-        problem: &Problem,
-        entries: &Entries,
-        number: usize,
-    ) -> Result<(), AllocError>
+    fn learn_to(&mut self, problem: &Problem, entries: &Entries, number: usize)
         requires within { number ≤ length entries.now }
         requires known { length self.old.mora.known ≤ number }
         requires legal { Legal problem.now entries.now }
         requires holds { Holds problem.now (take (length self.old.mora.known) entries.now) self.old }
-        ensures holds { OnOk result (Holds problem.now (take number entries.now) self.new) }
-        ensures run { OnOk result (HasRun problem.now (take (length self.old.mora.known) entries.now) self.old.mora → HasRun problem.now (take number entries.now) self.new.mora) }
+        ensures holds { Holds problem.now (take number entries.now) self.new }
+        ensures run { HasRun problem.now (take (length self.old.mora.known) entries.now) self.old.mora → HasRun problem.now (take number entries.now) self.new.mora }
         ensures same { self.new.mora ≡ record self.old.mora { known = self.new.mora.known } }
     {
         for k in self.mora.known()..number {
-            self.learn(problem, entries, k)?;
-        }
-        Ok(())
-    }
-
-    /// Whether the pair of an item is skipped by the first `known` entries, which the worker knows.
-    fn skips_by(&self, problem: &Problem, entries: &Entries, known: usize, item: Item) -> bool
-        requires item { IsItemOf (length problem.now.gens) known item }
-        requires within { known ≤ length entries.now }
-        requires legal { Legal problem.now entries.now }
-        requires holds { Holds problem.now (take known entries.now) self.now }
-        ensures { result ≡ is_skipped problem.now (take known entries.now) item }
-    {
-        let _problem = problem.n();
-        match item {
-            Item::Generator(_) => false,
-            Item::Pair(i, j) => skip(&self.leads, i, j).is_some(),
+            self.learn_at(problem, entries, k);
         }
     }
 
@@ -63,7 +42,7 @@ impl PlainWorker {
         requires holds { Holds problem.now (take known entries.now) self.now }
         ensures { result ≡ (not (is_skipped problem.now (take known entries.now) item) && not (is_zero self.now.mora.end)) }
     {
-        !self.skips_by(problem, entries, known, item) && !is_zero(self.mora.end())
+        !self.skips(problem, item) && !is_zero(self.mora.end())
     }
 
     /// Makes the step of a hand's reading once more.
@@ -74,16 +53,15 @@ impl PlainWorker {
         known: usize,
         hand: &CoreHand,
         i: usize,
-    ) -> Result<(), AllocError>
+    )
         requires hand { IsKnownHand problem.now entries.now known hand.now }
         requires within { i < length hand.now.reads }
         requires run { IsRun problem.now entries.now known hand.now i self.old }
-        ensures run { OnOk result (IsRun problem.now entries.now known hand.now (i + 1) self.new) }
+        ensures run { IsRun problem.now entries.now known hand.now (i + 1) self.new }
     {
         let reading = hand.reads.get(i);
-        self.learn_to(problem, entries, reading.known as usize)?;
+        self.learn_to(problem, entries, reading.known as usize);
         self.mora.step(&self.table, reading);
-        Ok(())
     }
 }
 
@@ -105,19 +83,19 @@ fn replay(
     entries: &Entries,
     known: usize,
     hand: &CoreHand,
-) -> Result<PlainWorker, AllocError>
+) -> Result<Workspace, AllocError>
     requires hand { IsKnownHand problem.now entries.now known hand.now }
     ensures { IfOk result (IsReplayed problem.now (take known entries.now) hand.now) }
 {
     let _problem = problem.n();
-    let mut worker = PlainWorker::open(alloc, problem)?;
-    worker.learn_to(problem, entries, first_known(hand, known))?;
+    let mut worker = Workspace::open(alloc, problem)?;
+    worker.learn_to(problem, entries, first_known(hand, known));
     let item = item_of(problem.generator_count(), hand.ticket);
     worker.mora.start(&worker.table, problem, item);
     for i in 0..hand.reads.len() {
-        worker.redo(problem, entries, known, hand, i)?;
+        worker.redo(problem, entries, known, hand, i);
     }
-    worker.learn_to(problem, entries, known)?;
+    worker.learn_to(problem, entries, known);
     Ok(worker)
 }
 
@@ -128,10 +106,10 @@ pub(crate) fn at_work(
     entries: &Entries,
     known: usize,
     hand: &Option<CoreHand>,
-) -> Result<Option<PlainWorker>, AllocError>
+) -> Result<Option<Workspace>, AllocError>
     requires hand { (h : Hand) → hand.now ≡ Some h → IsKnownHand problem.now entries.now known h }
     ensures none { result ≡ Ok None → has_open problem.now (take known entries.now) hand.now ≡ false }
-    ensures some { (w : PlainWorker) → result ≡ Ok (Some w) → IsAtWork problem.now (take known entries.now) hand.now w }
+    ensures some { (w : Workspace) → result ≡ Ok (Some w) → IsAtWork problem.now (take known entries.now) hand.now w }
 {
     let _problem = problem.n();
     let Some(hand) = hand else {
@@ -174,7 +152,7 @@ fn last_known(reads: &Reads) -> u32
 }
 
 /// Whether a run is stuck by a last reading that knew `known` entries, which are all.
-pub(crate) fn is_publishable(worker: &PlainWorker, known: u32, entries: usize) -> bool
+pub(crate) fn is_publishable(worker: &Workspace, known: u32, entries: usize) -> bool
     ensures { result ≡ (known == entries && (is_stuck worker.now.mora.end && last_known 0 worker.now.mora.reads == known)) }
 {
     let stuck = is_stuck(worker.mora.end());
@@ -185,7 +163,7 @@ pub(crate) fn is_publishable(worker: &PlainWorker, known: u32, entries: usize) -
 /// The readings of a run with one more, which replaces the last one where that gave Stuck.
 pub(crate) fn more_reads(
     alloc: Global,
-    worker: &PlainWorker,
+    worker: &Workspace,
     reading: Reading,
 ) -> Result<Reads, AllocError>
     ensures { IfOk result (λ l. l.list ≡ but_stuck worker.now.mora.end worker.now.mora.reads ++ reading ∷ []) }

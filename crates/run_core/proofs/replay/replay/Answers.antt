@@ -23,7 +23,7 @@ start-requires-clause-item c =
     let h : Hand = c.args.hand.now in
     let first = c.first_known.result in
     let l = first_within P c.args.entries.now c.args.known h c.requires.hand first c.first_known.ensures.first c.first_known.ensures.none in
-    let count : length c.learn_to.new.self.mora.known ≡ first = c.in_ok-learn_to.ensures.holds.knows.all ∙ length-take-le first c.args.entries.now (le_trans l c.requires.hand.within) in
+    let count : length c.learn_to.new.self.mora.known ≡ first = c.learn_to.ensures.holds.knows.all ∙ length-take-le first c.args.entries.now (le_trans l c.requires.hand.within) in
     let item : c.item_of-item.result ≡ item_for P h.ticket = c.item_of-item.ensures.value ∙ ap₂ item_of c.generator_count.ensures (ap (λ (x : Hand). x.ticket) c.hand.view_is) in
     let fits = item_fits P h.ticket first (ticket_within P c.args.entries.now c.args.known h c.requires.hand first c.first_known.ensures.first c.first_known.ensures.none) in
     subst (λ x. IsItemOf (length P.gens) (length c.learn_to.new.self.mora.known) x) (sym item) (subst (λ n. IsItemOf (length P.gens) n (item_for P h.ticket)) (sym count) fits)
@@ -34,7 +34,7 @@ loop-i-init c =
     let h : Hand = c.args.hand.now in
     let first = c.first_known.result in
     let l = first_within P c.args.entries.now c.args.known h c.requires.hand first c.first_known.ensures.first c.first_known.ensures.none in
-    let holds = c.in_ok-learn_to.ensures.holds in
+    let holds = c.learn_to.ensures.holds in
     let count : length c.learn_to.new.self.mora.known ≡ first = holds.knows.all ∙ length-take-le first c.args.entries.now (le_trans l c.requires.hand.within) in
     let item : c.item_of-item.result ≡ item_for P h.ticket = c.item_of-item.ensures.value ∙ ap₂ item_of c.generator_count.ensures (ap (λ (x : Hand). x.ticket) c.hand.view_is) in
     begun P c.args.entries.now c.args.known h c.requires.hand first c.learn_to.new.self c.item_of-item.result c.start.new.self l count holds c.start.ensures.value item

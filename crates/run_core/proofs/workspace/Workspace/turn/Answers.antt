@@ -4,7 +4,7 @@ use Rattle.mora_law.specs.Tickets.{total}
 use Rattle.run_core.specs.Plain.{Plain, plain_claimed}
 use Rattle.run_core.specs.Work.{HasClaimed}
 use Rattle.run_core.proofs.Turns.{entries_few, claims_one}
-use Rattle.run_core.proofs.plain_worker.PlainWorker.turn.Goals as goal
+use Rattle.run_core.proofs.workspace.Workspace.turn.Goals as goal
 
 pub claim-requires-clause-few : goal.claim-requires-clause-few
 claim-requires-clause-few c = entries_few c.args.board.now c.args.self.now (subst IsProblem c.requires.problem c.n-problem.ensures.problem) c.requires.ready

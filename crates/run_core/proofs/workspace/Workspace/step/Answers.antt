@@ -1,10 +1,10 @@
 use Rattle.std.proofs.Common.{◌≡◌, ◌∷◌, [], length, sym, ◌∙◌, ap, ap₂, subst, arith, length-append}
 use Rattle.entry_code.specs.declared.reading.Reading.{Reading}
-use Rattle.run_core.specs.declared.plain_worker.PlainWorker.{PlainWorker}
+use Rattle.run_core.specs.declared.workspace.Workspace.{Workspace}
 use Rattle.run_core.specs.Plain.{Plain, plain_corner}
 use Rattle.run_core.specs.Work.{IsRunning, HasRunTo}
 use Rattle.run_core.proofs.Working.{own_corner, lower_corner, known_small, reads_are, stepped, goes_on}
-use Rattle.run_core.proofs.plain_worker.PlainWorker.step.Goals as goal
+use Rattle.run_core.proofs.workspace.Workspace.step.Goals as goal
 
 pub overflow_cast-known : goal.overflow_cast-known
 overflow_cast-known c = omega (arith, known_small c.args.board.now c.args.self.now c.requires.running, c.len-known.ensures, ap length c.entries.ensures)
@@ -28,7 +28,7 @@ pub returns-clause-reduced : goal.returns-clause-reduced
 returns-clause-reduced c = λ reduced.
     let b : Plain = c.args.board.now in
     let r = c.requires.running in
-    let w : PlainWorker = c.args.self.now in
+    let w : Workspace = c.args.self.now in
     let d : Reading = record { known = c.len-known.result; corner = c.corner-corner.result } in
     let is : d ≡ record { known = length b.entries; corner = plain_corner b } = ap₂ (λ k x. record { known = k; corner = x }) (c.len-known.ensures ∙ ap length c.entries.ensures) c.corner-corner.ensures.value in
     subst (λ (x : Plain). IsRunning x (record w { mora = c.step.new.self })) (sym c.corner-corner.ensures.board)
@@ -38,7 +38,7 @@ pub returns-clause-run : goal.returns-clause-run
 returns-clause-run c =
     let b : Plain = c.args.board.now in
     let r = c.requires.running in
-    let w : PlainWorker = c.args.self.now in
+    let w : Workspace = c.args.self.now in
     let d : Reading = record { known = c.len-known.result; corner = c.corner-corner.result } in
     let is : d ≡ record { known = length b.entries; corner = plain_corner b } = ap₂ (λ k x. record { known = k; corner = x }) (c.len-known.ensures ∙ ap length c.entries.ensures) c.corner-corner.ensures.value in
     subst (λ (x : Plain). HasRunTo x (record w { mora = c.step.new.self }) c.step.result) (sym c.corner-corner.ensures.board)

@@ -1,10 +1,10 @@
 use Rattle.std.proofs.Common.{◌≡◌, take, subst, arith}
 use Rattle.run_core.specs.Work.{Holds}
 use Rattle.run_core.proofs.Replays.{learnt_next}
-use Rattle.run_core.proofs.plain_worker.PlainWorker.learn_to.Goals as goal
+use Rattle.run_core.proofs.workspace.Workspace.learn_to.Goals as goal
 
 pub loop-k-preserved : goal.loop-k-preserved
-loop-k-preserved c = learnt_next c.args.problem.now c.args.entries.now c.args.self.now c.loop-k.k c.loop-k.self c.learn.new.self c.loop-k.invariant c.in_ok-learn.ensures.holds c.in_ok-learn.ensures.run c.learn.ensures.mora
+loop-k-preserved c = learnt_next c.args.problem.now c.args.entries.now c.args.self.now c.loop-k.k c.loop-k.self c.learn_at.new.self c.loop-k.invariant c.learn_at.ensures.holds c.learn_at.ensures.run c.learn_at.ensures.mora
 
 pub returns-clause-holds : goal.returns-clause-holds
 returns-clause-holds c =

@@ -3,7 +3,7 @@ use Rattle.mora_law.proofs.Ring.{ranks_count, count_is}
 use Rattle.run_core.specs.State.{count_of}
 use Rattle.run_core.specs.Plain.{Plain}
 use Rattle.run_core.proofs.Working.{few_reads}
-use Rattle.run_core.proofs.plain_worker.PlainWorker.run.Goals as goal
+use Rattle.run_core.proofs.workspace.Workspace.run.Goals as goal
 
 pub loop-end-smaller : goal.loop-end-smaller
 loop-end-smaller c =
