@@ -1,0 +1,12 @@
+pub mod Knowing
+pub mod Stepping
+pub mod Carrying
+pub mod Lasting
+pub mod Turning
+pub mod Ending
+pub mod Beginning
+pub mod Dealing
+pub mod Left
+pub mod Gathering
+pub mod Opening
+pub mod Finishing

@@ -1,0 +1,4 @@
+pub mod Working
+pub mod Running
+pub mod Manned
+pub mod Rounds
