@@ -1,16 +1,16 @@
 -- Reading from left to right finds the parts: the first one is found where there is one, and the others behind it.
 -- What they give is put together kind by kind, which fails exactly where a kind comes twice.
-use Rattle.std.proofs.Common.{◌≡◌, ◌⊎◌, inl, inr, ℕ, ◌<◌, ◌≤◌, suc, List, [], ◌∷◌, ◌++◌, length, codes, decimal, refl, sym, ap, ap₂, subst, ◌∙◌, arith, length-append, Some, None, Bor, append_assoc, map, IfNone, Bool, true, false, not, ◌==◌}
+use Rattle.std.proofs.Common.{◌≡◌, ◌⊎◌, inl, inr, ℕ, ◌<◌, ◌≤◌, suc, List, [], ◌∷◌, ◌++◌, length, codes, decimal, refl, sym, ap, ap₂, subst, ◌∙◌, arith, length-append, Some, None, Bor, append_assoc, map, IfNone, Bool, true, false, not, ◌==◌, All}
 use Rattle.std.proofs.lemmas.List.{append_cancel_left, append-nil}
 use Rattle.std.proofs.lemmas.List.Elements.{All-nil, All-head, All-tail, All-cons}
 use Rattle.std.proofs.lemmas.Bool.{eqb-true, eqb-false}
 use Rattle.std.specs.declared.option.Option.{Option}
 use Rattle.std.specs.Option.{option_to_list}
 use Rattle.local_std.specs.Bench.{max_bench}
-use Rattle.local_std.specs.Words.{Form, joined, apart, Part, numeral, cert, option_words, words_of, IsValue, IsPart, all_words, numerals, paths, Request, name_of, Takes, IsLine, InGrammar, HasPath}
+use Rattle.local_std.specs.Words.{Form, joined, apart, Part, numeral, cert, workers, option_words, words_of, IsValue, IsPart, all_words, numerals, paths, counts, max_workers, workers_by, Request, name_of, Takes, IsLine, InGrammar, HasPath}
 use Rattle.local_std.specs.declared.words.Given.{Given}
-use Rattle.local_std.specs.View.{Gives, AreParts}
-use Rattle.local_std.proofs.Lines.{option_same, part_same, part_some, parts_same, one_line, numeral_no_cert}
+use Rattle.local_std.specs.View.{Kinds, kinds_of, kinds_in, together, AreOnce, Gives, AreParts}
+use Rattle.local_std.proofs.Lines.{option_same, part_same, part_some, parts_same, one_line, numeral_no_option, numeral_value, cert_no_workers, workers_low}
 
 -- ---- tests
 -- a length that was tested is 0, or isn't
@@ -60,45 +60,60 @@ module _ (word : List ℕ) (rest : List (List ℕ)) where
   -- an option without a path is no part
   pub no_path : (form : Form) (path : List ℕ) (behind : List (List ℕ)) → length path ≡ 0 → word ∷ rest ≡ option_words (codes "--cert") form path ++ behind →
       (part : Part) (others : List (List ℕ)) → IsPart part → word ∷ rest ≡ words_of part ++ others → ⊥
-  no_path form path behind none is (numeral k) others a h = numeral_no_cert k form path others behind a (sym h ∙ is)
+  no_path form path behind none is (numeral k) others a h = numeral_no_option k (codes "--cert") form path others behind refl a (sym h ∙ is)
   no_path form path behind none is (cert g other) others a h =
       let e = option_same (codes "--cert") form g path other behind others (sym is ∙ h) in
       omega (arith, ap length e.1, none, a.0)
+  no_path form path behind none is (workers g count) others a h = cert_no_workers form g path (decimal count) behind others (sym is ∙ h)
 
-  -- a word that is neither begins no part
+  -- nor is one whose value is no number of workers
+  pub no_count : (form : Form) (value : List ℕ) (behind : List (List ℕ)) → ((k : ℕ) → 1 ≤ k → k ≤ max_workers → value ≡ decimal k → ⊥) →
+      word ∷ rest ≡ option_words (codes "--workers") form value ++ behind →
+      (part : Part) (others : List (List ℕ)) → IsPart part → word ∷ rest ≡ words_of part ++ others → ⊥
+  no_count form value behind none is (numeral k) others a h = numeral_no_option k (codes "--workers") form value others behind refl a (sym h ∙ is)
+  no_count form value behind none is (cert g path) others a h = cert_no_workers g form path value others behind (sym h ∙ is)
+  no_count form value behind none is (workers g count) others a h =
+      let e = option_same (codes "--workers") form g value (decimal count) behind others (sym is ∙ h) in
+      none count a.0 a.1 e.1
+
+  -- a word that is none of these begins no part
   pub no_part : ((form : Form) (value : List ℕ) (behind : List (List ℕ)) → IsValue form value → word ∷ rest ≡ option_words (codes "--cert") form value ++ behind → ⊥) →
+      ((form : Form) (value : List ℕ) (behind : List (List ℕ)) → IsValue form value → word ∷ rest ≡ option_words (codes "--workers") form value ++ behind → ⊥) →
       ((k : ℕ) → k ≤ max_bench → word ≡ decimal k → ⊥) →
       (part : Part) (others : List (List ℕ)) → IsPart part → word ∷ rest ≡ words_of part ++ others → ⊥
-  no_part no_option no_numeral (numeral k) others a h = no_numeral k a (cc (h))
-  no_part no_option no_numeral (cert form path) others a h = no_option form path others a.1 h
+  no_part no_cert no_workers no_numeral (numeral k) others a h = no_numeral k a (cc (h))
+  no_part no_cert no_workers no_numeral (cert form path) others a h = no_cert form path others a.1 h
+  no_part no_cert no_workers no_numeral (workers form count) others a h = no_workers form (decimal count) others (numeral_value form count (omega (arith, a.1))) h
 
 -- what one part gives
-pub gives_cert : (form : Form) (path : Bor (List ℕ)) → 1 ≤ length path.now → IsValue form path.now → Gives (cert form path.now ∷ []) (record { number = None; cert = Some path })
-gives_cert form path some value = record { values = All-cons IsPart (cert form path.now) [] (some, value) (All-nil IsPart); numbers = refl; paths = refl }
+pub gives_cert : (form : Form) (path : Bor (List ℕ)) → 1 ≤ length path.now → IsValue form path.now → Gives (cert form path.now ∷ []) (record { number = None; cert = Some path; workers = None })
+gives_cert form path some value = record { values = All-cons IsPart (cert form path.now) [] (some, value) (All-nil IsPart); kinds = refl }
+
+-- a number of workers gives itself
+pub gives_workers : (form : Form) (count : ℕ) → 1 ≤ count → count ≤ max_workers → Gives (workers form count ∷ []) (record { number = None; cert = None; workers = Some count })
+gives_workers form count some low = record { values = All-cons IsPart (workers form count) [] (some, low) (All-nil IsPart); kinds = refl }
 
 -- a numeral gives its number
-pub gives_number : (k : ℕ) → k ≤ max_bench → Gives (numeral k ∷ []) (record { number = Some k; cert = None })
-gives_number k low = record { values = All-cons IsPart (numeral k) [] low (All-nil IsPart); numbers = refl; paths = refl }
+pub gives_number : (k : ℕ) → k ≤ max_bench → Gives (numeral k ∷ []) (record { number = Some k; cert = None; workers = None })
+gives_number k low = record { values = All-cons IsPart (numeral k) [] low (All-nil IsPart); kinds = refl }
 
 -- ---- the others
 -- what one part gives comes before what the others give
-numerals_first : (part : Part) (parts : List Part) → numerals (part ∷ parts) ≡ numerals (part ∷ []) ++ numerals parts
-numerals_first (numeral k) parts = refl
-numerals_first (cert form path) parts = refl
+kinds_first : (part : Part) (parts : List Part) → kinds_of (part ∷ parts) ≡ together (kinds_of (part ∷ [])) (kinds_of parts)
+kinds_first (numeral k) parts = refl
+kinds_first (cert form path) parts = refl
+kinds_first (workers form count) parts = refl
 
--- so do its paths
-paths_first : (part : Part) (parts : List Part) → paths (part ∷ parts) ≡ paths (part ∷ []) ++ paths parts
-paths_first (numeral k) parts = refl
-paths_first (cert form path) parts = refl
+-- kinds are put together in any grouping
+together_assoc : (a b c : Kinds) → together (together a b) c ≡ together a (together b c)
+together_assoc a b c = let n = append_assoc a.numbers b.numbers c.numbers in let p = append_assoc a.paths b.paths c.paths in let w = append_assoc a.counts b.counts c.counts in cc (n, p, w)
 
--- so what is given goes on
-after_first : {A : Type 0} (before one more others all given : List A) → more ≡ before ++ one → all ≡ one ++ others → given ≡ more ++ others → given ≡ before ++ all
-after_first before one more others all given m a g = g ∙ ap (λ l. l ++ others) m ∙ append_assoc before one others ∙ ap (λ l. before ++ l) (sym a)
+-- what is once with more behind it is once
+fewer : {A : Type 0} (a b c : List A) → length (a ++ (b ++ c)) ≤ 1 → length (a ++ b) ≤ 1
+fewer a b c few = omega (arith, few, length-append a (b ++ c), length-append b c, length-append a b)
 
--- and a kind that comes twice comes twice in all of it
-twice : {A : Type 0} (before one others all : List A) → all ≡ one ++ others → 1 < length (before ++ one) → length (before ++ all) ≤ 1 → ⊥
-twice before one others all a many few =
-    omega (arith, many, few, length-append before one, length-append before all, ap length a, length-append one others)
+pub once_before : (a b c : Kinds) → AreOnce (together a (together b c)) → AreOnce (together a b)
+once_before a b c once = record { numbers = fewer a.numbers b.numbers c.numbers once.numbers; paths = fewer a.paths b.paths c.paths once.paths; counts = fewer a.counts b.counts c.counts once.counts }
 
 module _ (words rest : List (List ℕ)) (part : Part) (is_part : IsPart part) (first : words ≡ words_of part ++ rest) where
   -- the first part and those behind it are the parts
@@ -115,36 +130,27 @@ module _ (words rest : List (List ℕ)) (part : Part) (is_part : IsPart part) (f
       let e = part_same q part (all_words qs) rest (All-head IsPart q qs are.values) is_part (sym are.spelled ∙ first) in
       (qs, ap (λ x. x ∷ qs) e.0, record { values = All-tail IsPart q qs are.values; spelled = sym e.1 })
 
-  -- the numbers that are given so far, with those of the part and the others, are those of all
-  pub numbers_on : (before one more given : List ℕ) (parts : List Part) → more ≡ before ++ one → one ≡ numerals (part ∷ []) → given ≡ more ++ numerals parts → given ≡ before ++ numerals (part ∷ parts)
-  numbers_on before one more given parts m o g = after_first before one more (numerals parts) (numerals (part ∷ parts)) given m (numerals_first part parts ∙ ap (λ l. l ++ numerals parts) (sym o)) g
+  module _ (before one : Kinds) (gives : one ≡ kinds_of (part ∷ [])) where
+    -- what is given so far, with what the part gives and what the others give, is what all give
+    pub kinds_on : (more : Kinds) (others : List Part) → more ≡ together before one → together more (kinds_of others) ≡ together before (kinds_of (part ∷ others))
+    kinds_on more others m =
+        ap (λ k. together k (kinds_of others)) m ∙ together_assoc before one (kinds_of others)
+        ∙ ap (λ k. together before (together k (kinds_of others))) gives ∙ ap (together before) (sym (kinds_first part others))
 
-  -- so it is with the paths
-  pub paths_on : (before one more given : List (List ℕ)) (parts : List Part) → more ≡ before ++ one → one ≡ paths (part ∷ []) → given ≡ more ++ paths parts → given ≡ before ++ paths (part ∷ parts)
-  paths_on before one more given parts m o g = after_first before one more (paths parts) (paths (part ∷ parts)) given m (paths_first part parts ∙ ap (λ l. l ++ paths parts) (sym o)) g
+    -- a kind that comes twice at once makes no parts
+    pub none_twice : (AreOnce (together before one) → ⊥) → (parts : List Part) → AreParts words parts → AreOnce (together before (kinds_of parts)) → ⊥
+    none_twice many parts are once =
+        let (others, is, behind) = parts_less parts are in
+        let e : together before (kinds_of parts) ≡ together before (together one (kinds_of others)) =
+        ap (λ ps. together before (kinds_of ps)) is ∙ ap (together before) (kinds_first part others) ∙ ap (λ k. together before (together k (kinds_of others))) (sym gives) in
+        many (once_before before one (kinds_of others) (subst AreOnce e once))
 
-  -- a kind that comes twice at once makes no parts
-  pub none_twice : (numbers one : List ℕ) (given path : List (List ℕ)) → one ≡ numerals (part ∷ []) → path ≡ paths (part ∷ []) →
-      (1 < length (numbers ++ one)) ⊎ (1 < length (given ++ path)) →
-      (parts : List Part) → AreParts words parts → length (numbers ++ numerals parts) ≤ 1 → length (given ++ paths parts) ≤ 1 → ⊥
-  none_twice numbers one given path o p (inl many) parts are few few_paths =
-      let (others, is, behind) = parts_less parts are in
-      twice numbers one (numerals others) (numerals parts) (ap numerals is ∙ numerals_first part others ∙ ap (λ l. l ++ numerals others) (sym o)) many few
-  none_twice numbers one given path o p (inr many) parts are few few_paths =
-      let (others, is, behind) = parts_less parts are in
-      twice given path (paths others) (paths parts) (ap paths is ∙ paths_first part others ∙ ap (λ l. l ++ paths others) (sym p)) many few_paths
-
-  -- where the words behind have no parts that go with what is given, these have none
-  pub none_behind : (numbers one more : List ℕ) (given path all : List (List ℕ)) → more ≡ numbers ++ one → one ≡ numerals (part ∷ []) → all ≡ given ++ path → path ≡ paths (part ∷ []) →
-      ((others : List Part) → AreParts rest others → length (more ++ numerals others) ≤ 1 → length (all ++ paths others) ≤ 1 → ⊥) →
-      (parts : List Part) → AreParts words parts → length (numbers ++ numerals parts) ≤ 1 → length (given ++ paths parts) ≤ 1 → ⊥
-  none_behind numbers one more given path all m o a p none parts are few few_paths =
-      let (others, is, behind) = parts_less parts are in
-      let n = numbers_on numbers one more (more ++ numerals others) others m o refl in
-      let q = paths_on given path all (all ++ paths others) others a p refl in
-      none others behind
-      (omega (arith, ap length n, few, ap (λ ps. length (numbers ++ numerals ps)) is))
-      (omega (arith, ap length q, few_paths, ap (λ ps. length (given ++ paths ps)) is))
+    -- where the words behind have no parts that go with what is given, these have none
+    pub none_behind : (more : Kinds) → more ≡ together before one → ((others : List Part) → AreParts rest others → AreOnce (together more (kinds_of others)) → ⊥) →
+        (parts : List Part) → AreParts words parts → AreOnce (together before (kinds_of parts)) → ⊥
+    none_behind more m none parts are once =
+        let (others, is, behind) = parts_less parts are in
+        none others behind (subst AreOnce (ap (λ ps. together before (kinds_of ps)) is ∙ sym (kinds_on more others m)) once)
 
 -- words of which none begins with a part, and which aren't none, have no parts
 pub none_first : (words : List (List ℕ)) → (words ≡ [] → ⊥) → ((part : Part) (rest : List (List ℕ)) → IsPart part → words ≡ words_of part ++ rest → ⊥) → (parts : List Part) → AreParts words parts → ⊥
@@ -166,12 +172,17 @@ module _ (words rest : List (List ℕ)) (name : List ℕ) (first : words ≡ nam
     spelled = first ∙ ap₂ (λ n ws. n ∷ ws) named are.spelled;
     values = are.values;
     takes = takes;
-    once = omega (arith, one given.cert, ap length gives.paths);
+    few_paths = omega (arith, one given.cert, ap (λ k. length k.paths) gives.kinds);
+    few_counts = omega (arith, single given.workers, ap (λ k. length k.counts) gives.kinds);
   }
     where
       one : (path : Option (Bor (List ℕ))) → length (map (λ p. p.now) (option_to_list path)) ≤ 1
       one None = omega arith
       one (Some path) = omega arith
+
+      single : (count : Option ℕ) → length (option_to_list count) ≤ 1
+      single None = omega arith
+      single (Some count) = omega arith
 
   -- where no request has this name and takes what they give, the words ask for nothing
   pub no_request : (given : Given) → Gives parts given → ((r : Request) (others : List Part) → name ≡ name_of r → Gives others given → Takes r others → ⊥) → InGrammar words → ⊥
@@ -185,11 +196,22 @@ pub no_cert : (words : List (List ℕ)) (r : Request) (parts : List Part) → Is
 no_cert words r parts line None is = λ other (q, others, has, one). let same = (one_line words r q parts others line has).1 in let e : [] ≡ other ∷ [] = is ∙ ap paths same ∙ one in cc (e)
 no_cert words r parts line (Some p) is = tt
 
--- where no number and no path are given there are no parts
-pub nothing_given : (parts : List Part) (given : Given) → Gives parts given → given.number ≡ None → given.cert ≡ None → parts ≡ []
-nothing_given parts given gives number path = none parts (sym gives.numbers ∙ ap option_to_list number) (sym gives.paths ∙ ap (λ o. map (λ p. p.now) (option_to_list o)) path)
+-- words whose parts have a number of workers have it within its bounds
+pub counted : (parts : List Part) (given : Given) (count : ℕ) → All IsPart parts → kinds_in given ≡ kinds_of parts → given.workers ≡ Some count → (1 ≤ count) × (count ≤ max_workers)
+counted parts given count values kinds is =
+    let e : count ∷ [] ≡ counts parts = ap option_to_list (sym is) ∙ ap (λ k. k.counts) kinds in
+    let same : workers_by (counts parts) ≡ count = ap workers_by (sym e) in
+    subst (λ n. (1 ≤ n) × (n ≤ max_workers)) same (workers_low parts values)
+
+-- where nothing is given there are no parts
+pub nothing_given : (parts : List Part) (given : Given) → Gives parts given → given.number ≡ None → given.cert ≡ None → given.workers ≡ None → parts ≡ []
+nothing_given parts given gives number path count = none parts
+    (ap (λ k. k.numbers) (sym gives.kinds) ∙ ap option_to_list number)
+    (ap (λ k. k.paths) (sym gives.kinds) ∙ ap (λ o. map (λ p. p.now) (option_to_list o)) path)
+    (ap (λ k. k.counts) (sym gives.kinds) ∙ ap option_to_list count)
   where
-    none : (ps : List Part) → numerals ps ≡ [] → paths ps ≡ [] → ps ≡ []
-    none [] n p = refl
-    none (numeral k ∷ ps) n p = absurd (cc (n))
-    none (cert form path ∷ ps) n p = absurd (cc (p))
+    none : (ps : List Part) → numerals ps ≡ [] → paths ps ≡ [] → counts ps ≡ [] → ps ≡ []
+    none [] n p w = refl
+    none (numeral k ∷ ps) n p w = absurd (cc (n))
+    none (cert form path ∷ ps) n p w = absurd (cc (p))
+    none (workers form count ∷ ps) n p w = absurd (cc (w))

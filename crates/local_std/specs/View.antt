@@ -1,5 +1,5 @@
 -- What the program's values stand for.
-use Rattle.std.specs.Prelude.{◌≡◌, ℕ, ◌≤◌, ◌⊎◌, List, map, take, All}
+use Rattle.std.specs.Prelude.{◌≡◌, ℕ, ◌≤◌, ◌⊎◌, List, ◌++◌, length, map, take, All}
 use Rattle.std.specs.Option.{option_to_list}
 use Rattle.local_std.specs.declared.outcome.Status.{Status}
 use Rattle.local_std.specs.declared.outcome.Status.TheVariants.{WriteFault}
@@ -7,7 +7,7 @@ use Rattle.local_std.specs.declared.words.Request.{Request as Asked}
 use Rattle.local_std.specs.declared.words.Request.TheVariants.{Solve, Check, Bench}
 use Rattle.local_std.specs.Bench.{max_bench}
 use Rattle.local_std.specs.declared.words.Given.{Given}
-use Rattle.local_std.specs.Words.{Request, solve, check, bench, Part, IsPart, all_words, numerals, paths}
+use Rattle.local_std.specs.Words.{Request, solve, check, bench, Part, IsPart, all_words, numerals, paths, counts}
 use Rattle.local_std.specs.Lent.{Lent, HasFailed, HasGained}
 
 -- the text was written, or the sink failed in it
@@ -27,18 +27,32 @@ IsNumbered solve = Unit {0}
 IsNumbered check = Unit {0}
 IsNumbered (bench k) = k ≤ max_bench
 
--- the number that is given, if there is one, and the path
-abbrev pub numbers_in : Given → List ℕ
-numbers_in given = option_to_list given.number
+-- what parts give, kind by kind: the number of a bench, the path of a certificate, the number of workers
+pub record Kinds : Type 0 where
+  pub numbers : List ℕ
+  pub paths : List (List ℕ)
+  pub counts : List ℕ
 
-abbrev pub paths_in : Given → List (List ℕ)
-paths_in given = map (λ path. path.now) (option_to_list given.cert)
+abbrev pub kinds_of : List Part → Kinds
+kinds_of parts = record { numbers = numerals parts; paths = paths parts; counts = counts parts }
+
+abbrev pub kinds_in : Given → Kinds
+kinds_in given = record { numbers = option_to_list given.number; paths = map (λ path. path.now) (option_to_list given.cert); counts = option_to_list given.workers }
+
+-- both
+abbrev pub together : Kinds → Kinds → Kinds
+together a b = record { numbers = a.numbers ++ b.numbers; paths = a.paths ++ b.paths; counts = a.counts ++ b.counts }
+
+-- no kind comes twice
+pub record AreOnce (kinds : Kinds) : Type 0 where
+  pub numbers : length kinds.numbers ≤ 1
+  pub paths : length kinds.paths ≤ 1
+  pub counts : length kinds.counts ≤ 1
 
 -- these parts give this
 pub record Gives (parts : List Part) (given : Given) : Type 0 where
   pub values : All IsPart parts
-  pub numbers : numbers_in given ≡ numerals parts
-  pub paths : paths_in given ≡ paths parts
+  pub kinds : kinds_in given ≡ kinds_of parts
 
 -- the words are spelled by these parts
 pub record AreParts (words : List (List ℕ)) (parts : List Part) : Type 0 where

@@ -1,5 +1,5 @@
 // The answer of an ideal.
-ghost use Rattle.std.specs.Prelude.{◌≡◌, ◌<◌, map, All, Contains, IfOk};
+ghost use Rattle.std.specs.Prelude.{◌≡◌, ◌<◌, ◌≤◌, length, map, All, Contains, IfOk};
 ghost use Rattle.std.specs.Bool.{OnTrue, OnFalse};
 ghost use Rattle.local_order.specs.Shape.{count};
 ghost use Rattle.sparse_poly.specs.Shape.{shape_of};
@@ -11,30 +11,45 @@ ghost use Rattle.staircase.specs.Stair.{IsStairOf};
 ghost use Rattle.tail_reduce.specs.Divisors.{leads_of};
 ghost use Rattle.text_out.specs.Answers.{IsInRing};
 ghost use Rattle.local_std.specs.Answer.{IsAnswerOf};
+ghost use Rattle.local_std.specs.Words.{max_workers};
 
 use entry_code::Entries;
 use local_order::Mono;
 use mono_rank::{RankError, RankTable};
-use run_core::run_plain;
+use run_core::Finished;
 use sparse_poly::Problem;
 use staircase::Stair;
 use std::alloc::{AllocError, Global};
+use std::thread::Threads;
 use tail_reduce::{lead_ranks, reduced};
 use text_out::{Answer, Monos};
+use workers::{Crew, Gate, run_rounds};
 
-/// Entries of a problem, which are legal and settle every ticket, and the answer of its ideal, by runs of Mora's normal form.
-pub fn answer_of(alloc: Global, problem: &Problem) -> Result<(Entries, Answer), AllocError>
+/// Entries of a problem, which are legal and settle every ticket, with a count for each worker, and the answer of its ideal: by runs
+/// of Mora's normal form, of as many workers as are told, in threads on one board.
+pub fn answer_of<R: Threads + Sync, G: Gate>(
+    rt: &R,
+    alloc: Global,
+    problem: &Problem,
+    workers: u32,
+    gate: &G,
+) -> Result<(Finished, Answer), AllocError>
+    requires some { 1 ≤ workers }
+    requires few { workers ≤ max_workers }
     ensures problem { IfOk result (λ r. IsProblem problem.now) }
-    ensures legal { IfOk result (λ r. Legal problem.now r.0) }
-    ensures settled { IfOk result (λ r. AllSettled problem.now r.0) }
+    ensures legal { IfOk result (λ r. Legal problem.now r.0.entries) }
+    ensures settled { IfOk result (λ r. AllSettled problem.now r.0.entries) }
+    ensures workers { IfOk result (λ r. length r.0.reductions ≡ workers) }
     ensures value { IfOk result (λ r. IsAnswerOf problem.now r.1) }
     ensures ring { IfOk result (λ r. IsInRing problem.now.p problem.now.n r.1) }
 {
     // A problem is within its limits, which its field is lent with.
     let _field = problem.field();
-    let finished = run_plain(alloc, problem)?;
+    let mut crew = Crew::open(alloc, problem, workers)?;
+    run_rounds(rt, &mut crew, gate);
+    let finished = crew.finish(alloc)?;
     let answer = answer_by(alloc, problem, &finished.entries)?;
-    Ok((finished.entries, answer))
+    Ok((finished, answer))
 }
 
 /// The answer by legal entries that settle every ticket.

@@ -1,5 +1,5 @@
 // The blocks that answer the commands of a script.
-ghost use Rattle.std.specs.Prelude.{◌≡◌, ◌+◌, ◌<◌, ◌++◌, ℕ, List, length, All, IfOk, Some, slice_get, string_bytes};
+ghost use Rattle.std.specs.Prelude.{◌≡◌, ◌+◌, ◌<◌, ◌≤◌, ◌++◌, ℕ, List, length, All, IfOk, Some, slice_get, string_bytes};
 ghost use Rattle.std.specs.Bool.{OnTrue, OnFalse};
 ghost use Rattle.sparse_poly.specs.Ideal.{Fits};
 ghost use Rattle.ring_reader.specs.Coherent.{IsCoherent, BelongsTo};
@@ -8,6 +8,7 @@ ghost use Rattle.local_std.specs.declared.solved.Solved.{Solved as SolvedProblem
 ghost use Rattle.local_std.specs.Solved.{IsSolved, IsPlaceOf};
 ghost use Rattle.local_std.specs.Answer.{problem_of, IsAnswerOf, IsBlock};
 ghost use Rattle.local_std.specs.Answered.{AreAnswered, status_of};
+ghost use Rattle.local_std.specs.Words.{max_workers};
 ghost use Rattle.script_grammar.specs.declared.script.Command.{Command as SomeCommand};
 ghost use Rattle.script_grammar.specs.declared.script.Script.{Script as SomeScript};
 
@@ -17,7 +18,9 @@ use crate::question::question_of;
 use crate::solved::{Solved, place_among};
 use ring_reader::{Command, Script};
 use std::alloc::{AllocError, Global};
+use std::thread::Threads;
 use text_out::{Answer, block_text};
+use workers::Gate;
 
 /// The block of a command, and whether the degree fits for it.
 #[derive(Drop)]
@@ -61,7 +64,17 @@ impl<'a> Blocks<'a> {
 
     /// Answers command `k` behind those before it, and tells the place of its problem among those that were solved. A problem that
     /// several commands have is solved once.
-    pub fn push(&mut self, alloc: Global, script: &'a Script, k: usize) -> Result<usize, AllocError>
+    pub fn push<R: Threads + Sync, G: Gate>(
+        &mut self,
+        rt: &R,
+        alloc: Global,
+        script: &'a Script,
+        k: usize,
+        workers: u32,
+        gate: &G,
+    ) -> Result<usize, AllocError>
+        requires some { 1 ≤ workers }
+        requires few { workers ≤ max_workers }
         requires coherent { IsCoherent script.now }
         requires within { k < length script.now.commands }
         requires solved { All IsSolved self.old.solved.items }
@@ -72,7 +85,7 @@ impl<'a> Blocks<'a> {
             → IsPlaceOf (problem_of script.now c) self.new.solved.items place) }
     {
         let command = script.commands.get(k);
-        let place = place_of(alloc, script, command, &mut self.solved)?;
+        let place = place_of(rt, alloc, script, command, &mut self.solved, workers, gate)?;
         let block = block_at(alloc, script, k as u32 + 1, command, &self.solved, place)?;
         self.text.push_str(&block.text)?;
         self.fits = self.fits && block.fits;
@@ -81,12 +94,17 @@ impl<'a> Blocks<'a> {
 }
 
 /// The place of a command's problem among those that were solved. It is solved, unless it is among them.
-fn place_of<'a>(
+fn place_of<'a, R: Threads + Sync, G: Gate>(
+    rt: &R,
     alloc: Global,
     script: &Script,
     command: &'a Command,
     solved: &mut Vec<Solved<'a>>,
+    workers: u32,
+    gate: &G,
 ) -> Result<usize, AllocError>
+    requires some { 1 ≤ workers }
+    requires few { workers ≤ max_workers }
     requires coherent { IsCoherent script.now }
     requires belongs { BelongsTo script.now command.now }
     requires solved { All IsSolved solved.old.items }
@@ -98,11 +116,11 @@ fn place_of<'a>(
     if let Some(place) = place_among(solved, question.problem()) {
         return Ok(place);
     }
-    let (entries, answer) = answer_of(alloc, question.problem())?;
+    let (finished, answer) = answer_of(rt, alloc, question.problem(), workers, gate)?;
     let place = solved.len();
     solved.push(Solved {
         question,
-        entries,
+        entries: finished.entries,
         answer,
     })?;
     Ok(place)

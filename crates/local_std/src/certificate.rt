@@ -10,6 +10,7 @@ ghost use Rattle.local_std.specs.Solved.{claim_of};
 ghost use Rattle.local_std.specs.declared.solved.Solved.{Solved as SolvedProblem};
 ghost use Rattle.local_std.specs.Claims.{IsClaimable};
 ghost use Rattle.local_std.specs.Answered.{Answers};
+ghost use Rattle.local_std.specs.Words.{max_workers};
 
 use crate::block::Blocks;
 use crate::solved::Solved;
@@ -18,21 +19,29 @@ use io_edge::Sink;
 use ring_reader::Script;
 use sparse_poly::Letters;
 use std::alloc::Global;
+use std::thread::Threads;
+use workers::Gate;
 
-/// Answers a script behind what stands in front: each command in order is solved, and then its block of the certificate is written.
-pub fn answer_all<'a, C: Sink>(
+/// Answers a script behind what stands in front: each command in order is solved by so many workers, and then its
+/// block of the certificate is written.
+pub fn answer_all<'a, R: Threads + Sync, C: Sink, G: Gate>(
+    rt: &R,
     alloc: Global,
     script: &'a Script,
     front: String,
     cert: &mut C,
+    workers: u32,
+    gate: &G,
 ) -> Result<Blocks<'a>, CertWriteError>
-    requires { IsCoherent script.now }
+    requires coherent { IsCoherent script.now }
+    requires some { 1 ≤ workers }
+    requires few { workers ≤ max_workers }
     ensures { Answers script.now (string_bytes front) (C.written cert.old) (C.written cert.new) (C.faults cert.old) (C.faults cert.new) result }
 {
     begin(cert)?;
     let mut blocks = Blocks::behind(alloc, front);
     for k in 0..script.commands.len() {
-        let Ok(place) = blocks.push(alloc, script, k) else {
+        let Ok(place) = blocks.push(rt, alloc, script, k, workers, gate) else {
             return Err(CertWriteError::Memory);
         };
         write_claim(

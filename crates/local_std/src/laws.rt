@@ -11,7 +11,7 @@ ghost use Rattle.text_out.specs.declared.answer.Answer.{Answer};
 ghost use Rattle.local_std.specs.declared.outcome.Status.{Status};
 ghost use Rattle.local_std.specs.Answer.{IsAnswerOf, IsAnswer, IsCertificate, Solves};
 ghost use Rattle.local_std.specs.Bench.{max_bench, bench_script};
-ghost use Rattle.local_std.specs.Words.{Request, Asks, HasPath};
+ghost use Rattle.local_std.specs.Words.{Request, Asks, HasPath, HasWorkers};
 
 /// A script has one answer: at most one text answers what it asks.
 pub fn one_text()
@@ -46,4 +46,9 @@ pub fn one_request()
 /// A list of words names one path of a certificate at most.
 pub fn one_path()
     ensures { (words : List (List ℕ)) (path other : List ℕ) → HasPath words path → HasPath words other → path ≡ other }
+{}
+
+/// A list of words asks for one number of workers at most.
+pub fn one_count()
+    ensures { (words : List (List ℕ)) (count other : ℕ) → HasWorkers words count → HasWorkers words other → count ≡ other }
 {}

@@ -9,7 +9,6 @@ mod bench;
 mod block;
 mod cert_sink;
 mod certificate;
-mod gate;
 pub mod laws;
 mod outcome;
 mod question;
@@ -21,7 +20,7 @@ mod verdict;
 mod words;
 
 pub use cert_sink::CertSink;
-pub use gate::{Gate, OpenGate};
 pub use outcome::Status;
 pub use top::run_lstd;
 pub use words::cert_path;
+pub use workers::{Gate, OpenGate};

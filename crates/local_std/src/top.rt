@@ -1,6 +1,6 @@
 // The top call.
 ghost use Rattle.std.specs.Prelude.{◌≡◌, ℕ, ◌≤◌, ◌⊎◌, List, map, string_bytes};
-ghost use Rattle.local_std.specs.Words.{Request as Requested, Asks, solve, check as check_of, bench as bench_of};
+ghost use Rattle.local_std.specs.Words.{Request as Requested, Asks, max_workers, solve, check as check_of, bench as bench_of};
 ghost use Rattle.local_std.specs.Bench.{max_bench};
 ghost use Rattle.local_std.specs.Endings.{HasText, IsAnswered};
 ghost use Rattle.local_std.specs.Lent.{lent, IsUntouched, HasFailed};
@@ -12,11 +12,10 @@ ghost use Rattle.local_std.specs.declared.outcome.Status.TheVariants.{Input, Usa
 
 use crate::bench::{bench_line, read_bench};
 use crate::certificate::answer_all;
-use crate::gate::Gate;
 use crate::outcome::Status;
 use crate::refusal::refusal_line;
 use crate::verdict::{verdict_line, verdict_status};
-use crate::words::{Request, request_of};
+use crate::words::{Request, request_of, worker_count};
 use cert_check::check as checked;
 use cert_write::CertWriteError;
 use io_edge::{ReadAllError, Sink, Source, read_all, write_all_counted};
@@ -24,6 +23,7 @@ use ring_reader::{ReadError, Script, read_script};
 use script_grammar::ReadKind;
 use std::alloc::Global;
 use std::thread::Threads;
+use workers::Gate;
 
 /// Does all that the program does. The words leave out the program's name.
 pub fn run_lstd<R: Threads + Sync, S: Source, K: Sink, C: Sink, G: Gate>(
@@ -63,11 +63,12 @@ pub fn run_lstd<R: Threads + Sync, S: Source, K: Sink, C: Sink, G: Gate>(
         → (HasFailed (lent K.written K.faults out.old out.new) ⊎ HasFailed (lent C.written C.faults cert.old cert.new) → ⊥)
         → IsAnswered result }
 {
-    let _rt = rt;
-    let _gate = gate;
     match request_of(words) {
         None => misused(out, cert),
-        Some(request) => serve(alloc, request, source, out, cert),
+        Some(request) => {
+            let workers = worker_count(words);
+            serve(rt, alloc, request, source, out, cert, workers, gate)
+        }
     }
 }
 
@@ -81,33 +82,43 @@ fn misused<K: Sink, C: Sink>(out: &mut K, cert: &mut C) -> Status
 }
 
 /// Serves a request.
-fn serve<S: Source, K: Sink, C: Sink>(
+fn serve<R: Threads + Sync, S: Source, K: Sink, C: Sink, G: Gate>(
+    rt: &R,
     alloc: Global,
     request: Request,
     source: &mut S,
     out: &mut K,
     cert: &mut C,
+    workers: u32,
+    gate: &G,
 ) -> Status
-    requires { IsNumbered (request_in request) }
+    requires numbered { IsNumbered (request_in request) }
+    requires some { 1 ≤ workers }
+    requires few { workers ≤ max_workers }
     ensures { Ends (request_in request) (lent S.left S.faults source.old source.new)
         (lent K.written K.faults out.old out.new) (lent C.written C.faults cert.old cert.new) result }
 {
     match request {
-        Request::Solve => solve(alloc, source, out, cert),
+        Request::Solve => solve(rt, alloc, source, out, cert, workers, gate),
         Request::Check => check(alloc, source, out, cert),
-        Request::Bench(number) => bench(alloc, number, source, out, cert),
+        Request::Bench(number) => bench(rt, alloc, number, source, out, cert, workers, gate),
     }
 }
 
 /// Answers the script of a number. The source isn't read.
-fn bench<S: Source, K: Sink, C: Sink>(
+fn bench<R: Threads + Sync, S: Source, K: Sink, C: Sink, G: Gate>(
+    rt: &R,
     alloc: Global,
     number: u16,
     source: &S,
     out: &mut K,
     cert: &mut C,
+    workers: u32,
+    gate: &G,
 ) -> Status
-    requires { number ≤ max_bench }
+    requires number { number ≤ max_bench }
+    requires some { 1 ≤ workers }
+    requires few { workers ≤ max_workers }
     ensures { Ends (bench_of number) (lent S.left S.faults source.now source.now)
         (lent K.written K.faults out.old out.new) (lent C.written C.faults cert.old cert.new) result }
 {
@@ -118,16 +129,21 @@ fn bench<S: Source, K: Sink, C: Sink>(
     let Ok(script) = read_bench(alloc, number) else {
         return Status::Memory;
     };
-    answered(alloc, &script, line, out, cert)
+    answered(rt, alloc, &script, line, out, cert, workers, gate)
 }
 
 /// Answers a script.
-fn solve<S: Source, K: Sink, C: Sink>(
+fn solve<R: Threads + Sync, S: Source, K: Sink, C: Sink, G: Gate>(
+    rt: &R,
     alloc: Global,
     source: &mut S,
     out: &mut K,
     cert: &mut C,
+    workers: u32,
+    gate: &G,
 ) -> Status
+    requires some { 1 ≤ workers }
+    requires few { workers ≤ max_workers }
     ensures { Ends solve (lent S.left S.faults source.old source.new)
         (lent K.written K.faults out.old out.new) (lent C.written C.faults cert.old cert.new) result }
 {
@@ -142,7 +158,16 @@ fn solve<S: Source, K: Sink, C: Sink>(
         Err(ReadError::Memory) => return Status::Memory,
         Err(ReadError::At { line, column, kind }) => return refused(out, line, column, kind),
     };
-    answered(alloc, &script, String::new(alloc), out, cert)
+    answered(
+        rt,
+        alloc,
+        &script,
+        String::new(alloc),
+        out,
+        cert,
+        workers,
+        gate,
+    )
 }
 
 /// Answers bytes that are refused there.
@@ -155,18 +180,23 @@ fn refused<K: Sink>(out: &mut K, line: u32, column: u32, kind: ReadKind) -> Stat
 
 /// Answers a script that was read: each command in order is solved and its block of the certificate written, and then the answer
 /// is, behind what stands in front.
-fn answered<K: Sink, C: Sink>(
+fn answered<R: Threads + Sync, K: Sink, C: Sink, G: Gate>(
+    rt: &R,
     alloc: Global,
     script: &Script,
     front: String,
     out: &mut K,
     cert: &mut C,
+    workers: u32,
+    gate: &G,
 ) -> Status
-    requires { IsCoherent script.now }
+    requires coherent { IsCoherent script.now }
+    requires some { 1 ≤ workers }
+    requires few { workers ≤ max_workers }
     ensures { Concludes (SolvesBehind (string_bytes front) script.now) (lent K.written K.faults out.old out.new)
         (lent C.written C.faults cert.old cert.new) result }
 {
-    match answer_all(alloc, script, front, cert) {
+    match answer_all(rt, alloc, script, front, cert, workers, gate) {
         Ok(blocks) => written(out, blocks.text.as_bytes(), blocks.status()),
         Err(CertWriteError::Failed) => Status::WriteFault,
         Err(CertWriteError::Memory) => Status::Memory,

@@ -19,14 +19,15 @@ const KEPT: &[u8] = b"ring r=32003,(x,y),ds;\nnoether=x^4;\nideal i=x-x2-y3,x;\n
 const KEPT_CERTIFICATE: &[u8] =
     b"lstd-cert 1\nblock 1\np 32003\nvars x y\nD 4\ngens 2\nx-x^2-y^3\nx\nentries 2\nentry 0 gen 0\nread 0 15\npoly x-x^2-y^3\nentry 1 gen 1\nread 1 15\nread 1 15\nread 1 15\npoly y^3\nfits\nbasis 2\nx\ny^3\ncorner y^2\nstair 3 1 y y^2\nend 1\ndone 1\n";
 
-/// Whether the script's certificate is this text.
+/// Whether the script's certificate by one worker is this text.
 fn is_certified<R: Threads + Sync>(
     rt: &R,
     alloc: Global,
     script: &[u8],
     text: &[u8],
 ) -> Result<bool, Fail> {
-    let (status, _out, cert) = run_with(rt, alloc, &["solve"], script, &[], 1000, 10_000)?;
+    let words = ["solve", "--workers", "1"];
+    let (status, _out, cert) = run_with(rt, alloc, &words, script, &[], 1000, 10_000)?;
     Ok(status == Status::Fits && cert.bytes() == text)
 }
 

@@ -13,9 +13,9 @@ const ROOM: usize = 100_000;
 
 const CALLS: u64 = 1_000;
 
-/// A command, what its source has, and the status where nothing fails.
+/// Words, what their source has, and the status where nothing fails. One worker alone writes the same certificate each time.
 struct Case {
-    word: &'static str,
+    words: &'static [&'static str],
     input: &'static [u8],
     status: Status,
 }
@@ -27,27 +27,27 @@ const POWERS: &[u8] = b"ring r=32003,(x,y),ds;\nnoether=x^5;\nideal i=x3,x2y,y3;
 /// isn't.
 const CASES: [Case; 5] = [
     Case {
-        word: "solve",
+        words: &["solve", "--workers", "1"],
         input: POWERS,
         status: Status::Fits,
     },
     Case {
-        word: "solve",
+        words: &["solve", "--workers", "1"],
         input: b"ring r=32003,(x,y),ds;\nnoether=y^6;\npoly f=x5+x2y2+y5;\nideal i=jacob(f);\nstd(i);\nvdim(i);\nmilnor(f);\n",
         status: Status::Fits,
     },
     Case {
-        word: "solve",
+        words: &["solve", "--workers", "1"],
         input: b"ring r=32003,(x,y),ds;\nnoether=y^5;\npoly f=x5+x2y2+y5;\nideal i=jacob(f);\nstd(i);\n",
         status: Status::TooSmall,
     },
     Case {
-        word: "check",
+        words: &["check"],
         input: KEPT,
         status: Status::Fits,
     },
     Case {
-        word: "check",
+        words: &["check"],
         input: CUT_SHORT,
         status: Status::Rejected,
     },
@@ -67,7 +67,7 @@ fn failing_run<R: Threads + Sync>(
         answer,
         certificate,
     };
-    run_failing(rt, alloc, &[case.word], case.input, &failing, ROOM, ROOM)
+    run_failing(rt, alloc, case.words, case.input, &failing, ROOM, ROOM)
 }
 
 /// Whether nothing is written where a read fails.
@@ -148,8 +148,9 @@ fn one_call_fails(rt: HostRuntime) -> Result<(), Fail> {
 
 #[test]
 fn no_room_for_the_answer(rt: HostRuntime) -> Result<(), Fail> {
-    let (_, _, whole) = run_with(&rt, rt.alloc(), &["solve"], POWERS, &[], ROOM, ROOM)?;
-    let (status, out, cert) = run_with(&rt, rt.alloc(), &["solve"], POWERS, &[], 0, ROOM)?;
+    let words = ["solve", "--workers", "1"];
+    let (_, _, whole) = run_with(&rt, rt.alloc(), &words, POWERS, &[], ROOM, ROOM)?;
+    let (status, out, cert) = run_with(&rt, rt.alloc(), &words, POWERS, &[], 0, ROOM)?;
     assert!(rt; status == Status::WriteFault && out.bytes().is_empty());
     assert!(rt; !whole.bytes().is_empty() && cert.bytes() == whole.bytes());
     Ok(())

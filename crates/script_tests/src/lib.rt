@@ -10,7 +10,11 @@ mod certificates;
 #[cfg(test)]
 mod checks;
 #[cfg(test)]
+mod crews;
+#[cfg(test)]
 mod faults;
+#[cfg(test)]
+mod hostile;
 #[cfg(test)]
 mod reading;
 #[cfg(test)]

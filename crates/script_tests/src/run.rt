@@ -1,5 +1,7 @@
 //! Runs of the top call in memory.
 
+ghost use Rattle.std.specs.Prelude.{◌≤◌};
+
 use io_edge::{MemSink, MemSource};
 use local_std::{OpenGate, Status, run_lstd};
 use std::alloc::Global;
@@ -56,11 +58,27 @@ pub(crate) fn run_failing<R: Threads + Sync>(
     room: usize,
     cert_room: usize,
 ) -> Result<(Status, MemSink, MemSink), Fail> {
+    run_in_pieces(rt, alloc, words, script, 10, failing, room, cert_room)
+}
+
+/// The same in pieces of so many bytes.
+pub(crate) fn run_in_pieces<R: Threads + Sync>(
+    rt: &R,
+    alloc: Global,
+    words: &[&str],
+    script: &[u8],
+    piece: usize,
+    failing: &Failing<'_>,
+    room: usize,
+    cert_room: usize,
+) -> Result<(Status, MemSink, MemSink), Fail>
+    requires { 1 ≤ piece }
+{
     let mut given = Vec::new(alloc);
     for word in words {
         given.push(String::from_str(alloc, *word)?)?;
     }
-    let mut source = MemSource::new(script.to_vec(alloc)?, 10, failing.reads.to_vec(alloc)?);
+    let mut source = MemSource::new(script.to_vec(alloc)?, piece, failing.reads.to_vec(alloc)?);
     let mut out = MemSink::new(alloc, room, 7, failing.answer.to_vec(alloc)?)?;
     let mut cert = MemSink::new(alloc, cert_room, 100, failing.certificate.to_vec(alloc)?)?;
     let status = run_lstd(

@@ -10,7 +10,7 @@ const USAGE: &[u8] =
     b"usage: lstd solve [--workers W] [--cert PATH] | lstd check | lstd bench K [--workers W] [--cert PATH]\n";
 
 /// Lists of words that ask for nothing.
-const NOTHING: [&[&str]; 55] = [
+const NOTHING: [&[&str]; 63] = [
     &[],
     &[""],
     &["solve", ""],
@@ -25,6 +25,14 @@ const NOTHING: [&[&str]; 55] = [
     &["solve", "--workers=0"],
     &["solve", "--workers="],
     &["solve", "--workers"],
+    &["solve", "--workers", "+1"],
+    &["solve", "--workers", "1x"],
+    &["solve", "--workers", "-1"],
+    &["solve", "--workers", "65537"],
+    &["solve", "--workers", "2", "--workers=2"],
+    &["bench", "--workers", "5"],
+    &["check", "--workers", "2"],
+    &["check", "--workers=2"],
     &["solve", "--cert="],
     &["solve", "--cert"],
     &["solve", "--cert", ""],
@@ -74,7 +82,7 @@ struct Named {
     path: &'static str,
 }
 
-const NAMED: [Named; 14] = [
+const NAMED: [Named; 16] = [
     Named {
         words: &["solve", "--cert", "p"],
         path: "p",
@@ -131,6 +139,14 @@ const NAMED: [Named; 14] = [
         words: &["bench", "--cert", "a/b", "0"],
         path: "a/b",
     },
+    Named {
+        words: &["solve", "--workers", "3", "--cert", "p"],
+        path: "p",
+    },
+    Named {
+        words: &["bench", "--cert=p", "7", "--workers=16"],
+        path: "p",
+    },
 ];
 
 /// A list of words that asks for a bench, and what answers it.
@@ -139,7 +155,7 @@ struct Bench {
     answer: &'static [u8],
 }
 
-const BENCHES: [Bench; 4] = [
+const BENCHES: [Bench; 6] = [
     Bench {
         words: &["bench", "0"],
         answer: b"bench 0\n1 milnor f\nmilnor 14\n2 highcorner j\ncorner z^6\n",
@@ -150,6 +166,14 @@ const BENCHES: [Bench; 4] = [
     },
     Bench {
         words: &["bench", "0", "--cert=p"],
+        answer: b"bench 0\n1 milnor f\nmilnor 14\n2 highcorner j\ncorner z^6\n",
+    },
+    Bench {
+        words: &["bench", "--workers", "2", "0"],
+        answer: b"bench 0\n1 milnor f\nmilnor 14\n2 highcorner j\ncorner z^6\n",
+    },
+    Bench {
+        words: &["bench", "0", "--workers=16", "--cert", "p"],
         answer: b"bench 0\n1 milnor f\nmilnor 14\n2 highcorner j\ncorner z^6\n",
     },
     Bench {

@@ -12,21 +12,21 @@ use Rattle.local_std.proofs.Certificates.{get_last}
 use Rattle.local_std.proofs.block.place_of.Goals as goal
 
 pub returns-clause-solved : goal.returns-clause-solved
-returns-clause-solved c =
-    let es = c.in_ok-entries.entries in
-    let a = c.in_ok-entries.answer in
+returns-clause-solved g c =
+    let es = c.in_ok-finished.finished.entries in
+    let a = c.in_ok-finished.answer in
     All-same IsSolved _ _ c.in_ok-push.ensures.items
     (All-push IsSolved _ _ c.requires.solved (record {
-      problem = subst IsProblem c.problem-2.ensures c.in_ok-entries.ensures.problem;
-      legal = subst (λ (P : Problem). Legal P es) c.problem-2.ensures c.in_ok-entries.ensures.legal;
-      settled = subst (λ (P : Problem). AllSettled P es) c.problem-2.ensures c.in_ok-entries.ensures.settled;
-      value = subst (λ (P : Problem). IsAnswerOf P a) c.problem-2.ensures c.in_ok-entries.ensures.value;
-      ring = subst (λ (P : Problem). IsInRing P.p P.n a) c.problem-2.ensures c.in_ok-entries.ensures.ring;
+      problem = subst IsProblem c.problem-2.ensures c.in_ok-finished.ensures.problem;
+      legal = subst (λ (P : Problem). Legal P es) c.problem-2.ensures c.in_ok-finished.ensures.legal;
+      settled = subst (λ (P : Problem). AllSettled P es) c.problem-2.ensures c.in_ok-finished.ensures.settled;
+      value = subst (λ (P : Problem). IsAnswerOf P a) c.problem-2.ensures c.in_ok-finished.ensures.value;
+      ring = subst (λ (P : Problem). IsInRing P.p P.n a) c.problem-2.ensures c.in_ok-finished.ensures.ring;
     }))
 
 pub returns-clause-place : goal.returns-clause-place
-returns-clause-place c =
-    let one : Solved = record { question = c.in_ok-question.question; entries = c.in_ok-entries.entries; answer = c.in_ok-entries.answer } in
+returns-clause-place g c =
+    let one : Solved = record { question = c.in_ok-question.question; entries = c.in_ok-finished.finished.entries; answer = c.in_ok-finished.answer } in
     let old : List Solved = c.args.solved.now.items in
     let len : c.len-place.result ≡ length old = c.len-place.ensures ∙ sym c.deref.ensures.len ∙ ap (λ (l : List Solved). length l) c.deref.ensures.value in
     let at : slice_get c.push.new.self.items c.len-place.result ≡ Some one =

@@ -14,5 +14,5 @@ returns g c =
     let script = c.in-Ok-read_bench.script in
     let found = c.in-Ok-read_bench.ensures.found in
     ends_by (bench k) source (lent g.K.Sink.written g.K.Sink.faults c.args.out.now c.answered.new.out) (lent g.C.Sink.written g.C.Sink.faults c.args.cert.now c.answered.new.cert)
-    (SolvesBehind line script) (λ s t p h. bench_served source k refl s t p (bench_due k c.requires found.0 found.1 script found.2 line c.in-Ok.ensures s t p h))
+    (SolvesBehind line script) (λ s t p h. bench_served source k refl s t p (bench_due k c.requires.number found.0 found.1 script found.2 line c.in-Ok.ensures s t p h))
     refl c.answered.result c.answered.ensures

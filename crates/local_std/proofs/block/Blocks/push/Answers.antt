@@ -5,7 +5,7 @@ use Rattle.local_std.proofs.block.Blocks.push.Goals as goal
 use Rattle.local_std.proofs.block.Blocks.push.Goals.{then-self, else-self}
 
 pub returns-clause-answered : goal.returns-clause-answered
-returns-clause-answered c = λ front before.
+returns-clause-answered g c = λ front before.
     let s = c.args.script.now in
     let old = c.args.self.now in
     let block = c.in_ok-block.block in

@@ -2,18 +2,18 @@ use Rattle.std.proofs.Common.{◌≡◌, decimal, arith, sym, ap, ◌∙◌}
 use Rattle.std.proofs.lemmas.Fmt.{parse-decimal}
 use Rattle.std.proofs.lemmas.Slice.Eq.{bytes_eq-Decides}
 use Rattle.local_std.proofs.Readings.{no_both}
-use Rattle.local_std.proofs.words.bench_number.Goals as goal
+use Rattle.local_std.proofs.words.numeral.Goals as goal
 
 pub returns-in-Err-clause-none : goal.returns-in-Err-clause-none
 returns-in-Err-clause-none c = λ k low e.
     let r = parse-decimal 16 k c.args.word.now c.parse.result (omega (arith, low)) (omega (arith, low)) e c.parse.ensures.value.0 in
     absurd (cc (r, c.in-Err.is))
 
-pub returns-then-number-gt4095-clause-none : goal.returns-then-number-gt4095-clause-none
-returns-then-number-gt4095-clause-none c = λ k low e.
+pub returns-then-number-most-clause-none : goal.returns-then-number-most-clause-none
+returns-then-number-most-clause-none c = λ k low e.
     let r = parse-decimal 16 k c.args.word.now c.parse.result (omega (arith, low)) (omega (arith, low)) e c.parse.ensures.value.0 in
     let n : c.in-Ok.number ≡ k = cc (r, c.in-Ok.is) in
-    absurd (omega (arith, n, low, c.if-number-gt4095.true))
+    absurd (omega (arith, n, low, c.if-number-most.true))
 
 pub returns-then-ne-clause-none : goal.returns-then-ne-clause-none
 returns-then-ne-clause-none c = λ k low e.
