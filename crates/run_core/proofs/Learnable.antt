@@ -67,6 +67,19 @@ terms_rise R v positive (suc left) r i j t u l e f = go (is_none_at R v r) i j l
         let same : record { rank = r; coef = v r % R.p } ≡ t = cc e in
         subst (λ (x : Term). x.rank < u.rank) same ((terms_within R v positive left (suc r) j u f).low)
 
+-- nothing isn't 1
+zero_not_one : (p : ℕ) → 1 < p → Same p 0 1 → ⊥
+zero_not_one p prime s =
+    let low : 0 % p ≡ 0 = mod-eq_of_lt (omega (arith, prime)) in
+    let high : 1 % p ≡ 1 = mod-eq_of_lt prime in
+    absurd (omega (arith, s.eq, low, high))
+
+-- the first coefficient is 1 where it is so modulo p
+first_is_one : (p : ℕ) (t : Term) (xs : List Term) → 1 < p → t.coef < p → Same p (vector_of_terms (t ∷ xs) t.rank) 1 → t.coef ≡ 1
+first_is_one p t xs prime small same =
+    let c : Same p t.coef 1 = subst (λ b. Same p (cond b t.coef (vector_of_terms xs t.rank)) 1) (eq-eqb t.rank t.rank refl) same in
+    sym (mod-eq_of_lt small) ∙ c.eq ∙ mod-eq_of_lt prime
+
 -- the terms of a legal entry
 pub legal_terms : (P : Problem) → IsAdmissible P → (entries : List Entry) → Legal P entries → (k : ℕ) → k < length entries →
     AreMonicTerms P.p (monomial_count P.n P.d) (entry_at entries k).terms
@@ -103,29 +116,16 @@ legal_terms P h entries legal k l = by_terms ts refl
     one = subst (λ n. Same n (vector_of_terms ts (lead_rank ts)) 1) (ranks_p P) ((monic P h entries legal).one k l)
 
     by_terms : (xs : List Term) → ts ≡ xs → AreMonicTerms P.p (monomial_count P.n P.d) ts
-    by_terms [] e = absurd (not_one (subst (λ xs. Same P.p (vector_of_terms xs (lead_rank xs)) 1) e one))
-      where
-        not_one : Same P.p 0 1 → ⊥
-        not_one s =
-            let low : 0 % P.p ≡ 0 = mod-eq_of_lt (omega (arith, prime)) in
-            let high : 1 % P.p ≡ 1 = mod-eq_of_lt prime in
-            absurd (omega (arith, s.eq, low, high))
+    by_terms [] e = absurd (zero_not_one P.p prime (subst (λ xs. Same P.p (vector_of_terms xs (lead_rank xs)) 1) e one))
     by_terms (t ∷ xs) e = record {
       some = subst (λ ys. 0 < length ys) (sym e) (omega arith);
       ranks = record {
         rising = λ i j a b m f g. terms_rise R v positive R.n 0 i j a b m (ap (λ ys. slice_get ys i) all ∙ f) (ap (λ ys. slice_get ys j) all ∙ g);
         low = All-from_get_or (λ t. t.rank < monomial_count P.n P.d) ts no_term (λ j m. let h = at j _ (slice_get-get_or ts j no_term m) in omega (arith, h.high, count));
       };
-      one = ap first_coef e ∙ first;
+      one = ap first_coef e ∙ first_is_one P.p t xs prime small (subst (λ ys. Same P.p (vector_of_terms ys (lead_rank ys)) 1) e one);
       residues = All-from_get_or (λ t. (0 < t.coef) × (t.coef < P.p)) ts no_term (λ j m. let h = at j _ (slice_get-get_or ts j no_term m) in (h.some, subst (λ n. (get_or ts j no_term).coef < n) (ranks_p P) h.small));
     }
       where
         small : t.coef < P.p
         small = subst (λ n. t.coef < n) (ranks_p P) ((at 0 t (ap (λ ys. slice_get ys 0) e)).small)
-
-        same : Same P.p (vector_of_terms (t ∷ xs) t.rank) 1
-        same = subst (λ ys. Same P.p (vector_of_terms ys (lead_rank ys)) 1) e one
-
-        first : t.coef ≡ 1
-        first = let c : Same P.p t.coef 1 = subst (λ b. Same P.p (cond b t.coef (vector_of_terms xs t.rank)) 1) (eq-eqb t.rank t.rank refl) same in
-            sym (mod-eq_of_lt small) ∙ c.eq ∙ mod-eq_of_lt prime

@@ -134,70 +134,6 @@ module _ (P : Problem) (entries : List Entry) (known : ℕ) (h : Hand) (ok : IsK
         next = λ d e. let t = next d e in omega (arith, n, t);
       }
 
-  module _ (i : ℕ) (w : Workspace) (r : IsRun P entries known h i w) (d : Reading) (at : slice_get h.reads i ≡ Some d) (l : i < length h.reads)
-      (v : Workspace) (learnt : HasLearnt P entries w d.known v) where
-    -- so many entries are known when the reading is made again
-    pub count : length v.mora.known ≡ d.known
-    count = learnt.holds.knows.all ∙ length-take-le d.known entries (le_trans (reading_within i d at) ok.within)
-
-    -- the run is open
-    pub is_opened : v.mora.is_open ≡ true
-    is_opened = ap (λ (x : MoraState). x.is_open) learnt.same ∙ r.opened l
-
-    -- no earlier reading has a lesser corner
-    pub corners : All (λ x. d.corner ≤ x.corner) v.mora.reads
-    corners = subst (All (λ x. d.corner ≤ x.corner)) (sym (ap (λ (x : MoraState). x.reads) learnt.same ∙ r.reads)) (corners_before (length (take known entries)) h.reads 0 (count_of P) i d ok.sound.orderly at)
-
-    module _ (m : MoraState) (end : StepEnd)
-        (value : m ≡ record v.mora { is_open = m.is_open; reads = recorded v.mora.end v.mora.reads ++ d ∷ []; end = m.end; poly = m.poly; kept = m.kept })
-        (ended : m.end ≡ Some end) (opened : (end ≡ Zero → ⊥) → m.is_open ≡ true) (more : HasRun P (take d.known entries) m) where
-      -- the run has this reading more
-      reads_are : m.reads ≡ take (i + 1) h.reads
-      reads_are = one_more v.mora.reads m.reads h.reads i d (ap (λ (x : MoraState). x.reads) learnt.same ∙ r.reads)
-          (ap (λ (x : MoraState). x.reads) value ∙ ap (λ ds. ds ++ d ∷ []) (recorded_all v.mora.end v.mora.reads (λ e. r.moving l (sym (ap (λ (x : MoraState). x.end) learnt.same) ∙ e)))) at
-
-      -- its item is that of the hand
-      item_is : m.item ≡ item_for P h.ticket
-      item_is = ap (λ (x : MoraState). x.item) value ∙ ap (λ (x : MoraState). x.item) learnt.same ∙ r.item
-
-      -- where a further reading follows, the step reduced
-      reduced : i + 1 < length h.reads → end ≡ Reduced
-      unfolding end_of reads_are item_is
-      reduced further =
-          let z : suc i ≡ i + 1 = omega arith in
-          let short = length-take-le d.known entries (le_trans (reading_within i d at) ok.within) in
-          let orderly : AreOrderly (length (take d.known entries)) 0 (count_of P) (take (i + 1) h.reads) =
-          subst (λ n. AreOrderly n 0 (count_of P) (take (i + 1) h.reads)) (sym short) (subst (λ n. AreOrderly d.known 0 (count_of P) (take n h.reads)) z (orderly_upto (length (take known entries)) h.reads 0 (count_of P) i d ok.sound.orderly at)) in
-          let same = run_over_more P (take d.known entries) (take known entries) (take_prefix entries d.known known (reading_within i d at) ok.within) m.item (take (i + 1) h.reads) more.item orderly in
-          let all : Some end ≡ Some Reduced = sym ended ∙ more.run.end ∙ ap (λ ds. (run P (take d.known entries) m.item ds).end) reads_are ∙ sym (ap (λ x. x.end) same)
-          ∙ ap (λ x. (run P (take known entries) x (take (i + 1) h.reads)).end) item_is ∙ ok.sound.before (i + 1) (omega arith) further in
-          cc
-
-      -- what holds after the reading
-      pub redone : IsRun P entries known h (i + 1) (record v { mora = m })
-      redone =
-          let n : length m.known ≡ d.known = ap (λ (x : MoraState). length x.known) value ∙ count in
-          let z : suc i ≡ i + 1 = omega arith in
-          let within = reading_within i d at in
-          record {
-            within = omega (arith, n, within);
-            holds = subst (λ k. Holds P (take k entries) (record v { mora = m })) (sym n) (record {
-              table = learnt.holds.table;
-              over = subst (IsOver P) (sym value) (record { field = learnt.holds.over.field; shape = learnt.holds.over.shape });
-              knows = subst (Knows (take d.known entries)) (sym value) (record { all = learnt.holds.knows.all; each = learnt.holds.knows.each; leads = learnt.holds.knows.leads });
-              leads = learnt.holds.leads;
-              shape = learnt.holds.shape;
-              cover = learnt.holds.cover;
-              room = learnt.holds.room;
-            });
-            run = subst (λ k. HasRun P (take k entries) m) (sym n) more;
-            item = item_is;
-            reads = reads_are;
-            opened = λ further. opened (λ e. absurd (cc (sym (reduced further) ∙ e)));
-            moving = λ further e. absurd (cc (reduced further, sym ended ∙ e));
-            next = λ d' e. let t = known_next (length (take known entries)) h.reads 0 (count_of P) i d d' ok.sound.orderly at (subst (λ k. slice_get h.reads k ≡ Some d') (sym z) e) in omega (arith, n, t);
-          }
-
   -- once all readings are made again, and the other entries are learnt
   pub replayed : (w v : Workspace) → IsRun P entries known h (length h.reads) w → HasLearnt P entries w known v → IsReplayed P (take known entries) h v
   replayed w v r learnt = record {
@@ -206,6 +142,70 @@ module _ (P : Problem) (entries : List Entry) (known : ℕ) (h : Hand) (ok : IsK
     item = ap (λ (x : MoraState). x.item) learnt.same ∙ r.item;
     reads = ap (λ (x : MoraState). x.reads) learnt.same ∙ r.reads ∙ take_all (length h.reads) h.reads (omega arith);
   }
+
+module _ (P : Problem) (entries : List Entry) (known : ℕ) (h : Hand) (ok : IsKnownHand P entries known h) (i : ℕ) (w : Workspace) (r : IsRun P entries known h i w)
+    (d : Reading) (at : slice_get h.reads i ≡ Some d) (l : i < length h.reads) (v : Workspace) (learnt : HasLearnt P entries w d.known v) where
+  -- so many entries are known when the reading is made again
+  pub count : length v.mora.known ≡ d.known
+  count = learnt.holds.knows.all ∙ length-take-le d.known entries (le_trans (reading_within P entries known h ok i d at) ok.within)
+
+  -- the run is open
+  pub is_opened : v.mora.is_open ≡ true
+  is_opened = ap (λ (x : MoraState). x.is_open) learnt.same ∙ r.opened l
+
+  -- no earlier reading has a lesser corner
+  pub corners : All (λ x. d.corner ≤ x.corner) v.mora.reads
+  corners = subst (All (λ x. d.corner ≤ x.corner)) (sym (ap (λ (x : MoraState). x.reads) learnt.same ∙ r.reads)) (corners_before (length (take known entries)) h.reads 0 (count_of P) i d ok.sound.orderly at)
+
+  module _ (m : MoraState) (end : StepEnd)
+      (value : m ≡ record v.mora { is_open = m.is_open; reads = recorded v.mora.end v.mora.reads ++ d ∷ []; end = m.end; poly = m.poly; kept = m.kept })
+      (ended : m.end ≡ Some end) (opened : (end ≡ Zero → ⊥) → m.is_open ≡ true) (more : HasRun P (take d.known entries) m) where
+    -- the run has this reading more
+    reads_are : m.reads ≡ take (i + 1) h.reads
+    reads_are = one_more v.mora.reads m.reads h.reads i d (ap (λ (x : MoraState). x.reads) learnt.same ∙ r.reads)
+        (ap (λ (x : MoraState). x.reads) value ∙ ap (λ ds. ds ++ d ∷ []) (recorded_all v.mora.end v.mora.reads (λ e. r.moving l (sym (ap (λ (x : MoraState). x.end) learnt.same) ∙ e)))) at
+
+    -- its item is that of the hand
+    item_is : m.item ≡ item_for P h.ticket
+    item_is = ap (λ (x : MoraState). x.item) value ∙ ap (λ (x : MoraState). x.item) learnt.same ∙ r.item
+
+    -- where a further reading follows, the step reduced
+    reduced : i + 1 < length h.reads → end ≡ Reduced
+    unfolding end_of reads_are item_is
+    reduced further =
+        let z : suc i ≡ i + 1 = omega arith in
+        let short = length-take-le d.known entries (le_trans (reading_within P entries known h ok i d at) ok.within) in
+        let orderly : AreOrderly (length (take d.known entries)) 0 (count_of P) (take (i + 1) h.reads) =
+        subst (λ n. AreOrderly n 0 (count_of P) (take (i + 1) h.reads)) (sym short) (subst (λ n. AreOrderly d.known 0 (count_of P) (take n h.reads)) z (orderly_upto (length (take known entries)) h.reads 0 (count_of P) i d ok.sound.orderly at)) in
+        let same = run_over_more P (take d.known entries) (take known entries) (take_prefix entries d.known known (reading_within P entries known h ok i d at) ok.within) m.item (take (i + 1) h.reads) more.item orderly in
+        let all : Some end ≡ Some Reduced = sym ended ∙ more.run.end ∙ ap (λ ds. (run P (take d.known entries) m.item ds).end) reads_are ∙ sym (ap (λ x. x.end) same)
+        ∙ ap (λ x. (run P (take known entries) x (take (i + 1) h.reads)).end) item_is ∙ ok.sound.before (i + 1) (omega arith) further in
+        cc
+
+    -- what holds after the reading
+    pub redone : IsRun P entries known h (i + 1) (record v { mora = m })
+    redone =
+        let n : length m.known ≡ d.known = ap (λ (x : MoraState). length x.known) value ∙ count in
+        let z : suc i ≡ i + 1 = omega arith in
+        let within = reading_within P entries known h ok i d at in
+        record {
+          within = omega (arith, n, within);
+          holds = subst (λ k. Holds P (take k entries) (record v { mora = m })) (sym n) (record {
+            table = learnt.holds.table;
+            over = subst (IsOver P) (sym value) (record { field = learnt.holds.over.field; shape = learnt.holds.over.shape });
+            knows = subst (Knows (take d.known entries)) (sym value) (record { all = learnt.holds.knows.all; each = learnt.holds.knows.each; leads = learnt.holds.knows.leads });
+            leads = learnt.holds.leads;
+            shape = learnt.holds.shape;
+            cover = learnt.holds.cover;
+            room = learnt.holds.room;
+          });
+          run = subst (λ k. HasRun P (take k entries) m) (sym n) more;
+          item = item_is;
+          reads = reads_are;
+          opened = λ further. opened (λ e. absurd (cc (sym (reduced further) ∙ e)));
+          moving = λ further e. absurd (cc (reduced further, sym ended ∙ e));
+          next = λ d' e. let t = known_next (length (take known entries)) h.reads 0 (count_of P) i d d' ok.sound.orderly at (subst (λ k. slice_get h.reads k ≡ Some d') (sym z) e) in omega (arith, n, t);
+        }
 
 -- the run of a hand ends as that of the worker
 pub replayed_end : (P : Problem) (known : List Entry) (h : Hand) (w : Workspace) → IsReplayed P known h w → w.mora.end ≡ end_of P known h.ticket h.reads

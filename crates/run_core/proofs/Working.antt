@@ -75,81 +75,81 @@ module _ (b : Plain) (w : Workspace) (r : IsRunning b w) where
   pub known_small : length b.entries ≤ 4096
   known_small = le_trans (few b.problem r.sound.problem b.entries r.sound.legal) r.problem.monomials
 
-  module _ (d : Reading) (is : d ≡ record { known = length b.entries; corner = plain_corner b }) (m : MoraState) (end : StepEnd)
-      (value : m ≡ record w.mora { is_open = m.is_open; reads = recorded w.mora.end w.mora.reads ++ d ∷ []; end = m.end; poly = m.poly; kept = m.kept })
-      (ended : m.end ≡ Some end) (more : HasRun b.problem b.entries m) where
-    -- the run has this reading more
-    pub reads_are : m.reads ≡ w.mora.reads ++ d ∷ []
-    reads_are = ap (λ (x : MoraState). x.reads) value ∙ ap (λ l. l ++ d ∷ []) (recorded_all w.mora.end w.mora.reads r.moving)
+module _ (b : Plain) (w : Workspace) (r : IsRunning b w) (d : Reading) (is : d ≡ record { known = length b.entries; corner = plain_corner b }) (m : MoraState) (end : StepEnd)
+    (value : m ≡ record w.mora { is_open = m.is_open; reads = recorded w.mora.end w.mora.reads ++ d ∷ []; end = m.end; poly = m.poly; kept = m.kept })
+    (ended : m.end ≡ Some end) (more : HasRun b.problem b.entries m) where
+  -- the run has this reading more
+  pub reads_are : m.reads ≡ w.mora.reads ++ d ∷ []
+  reads_are = ap (λ (x : MoraState). x.reads) value ∙ ap (λ l. l ++ d ∷ []) (recorded_all w.mora.end w.mora.reads r.moving)
 
-    -- and so has the hand
-    hand_reads : more_reads b.problem b.entries hand d ≡ m.reads
-    hand_reads = reads_alike b.problem b.entries r.hand.ticket w.mora r.hand.item r.run d ∙ ap (λ l. l ++ d ∷ []) (recorded_all w.mora.end w.mora.reads r.moving) ∙ sym reads_are
+  -- and so has the hand
+  hand_reads : more_reads b.problem b.entries (hand b w r) d ≡ m.reads
+  hand_reads = reads_alike b.problem b.entries r.hand.ticket w.mora r.hand.item r.run d ∙ ap (λ l. l ++ d ∷ []) (recorded_all w.mora.end w.mora.reads r.moving) ∙ sym reads_are
 
-    -- the hand is that of the run
-    in_hand : IsInHand (plain_cornered b) m
-    in_hand = record {
-      ticket = r.hand.ticket;
-      hand = ap (λ x. read b.problem b.entries x b.hand) (sym is) ∙ ap (read b.problem b.entries d) r.hand.hand
-          ∙ ap (λ l. Some (record { ticket = r.hand.ticket; reads = l; published = false })) hand_reads;
-      item = ap (λ (x : MoraState). x.item) value ∙ r.hand.item;
-    }
+  -- the hand is that of the run
+  in_hand : IsInHand (plain_cornered b) m
+  in_hand = record {
+    ticket = r.hand.ticket;
+    hand = ap (λ x. read b.problem b.entries x b.hand) (sym is) ∙ ap (read b.problem b.entries d) r.hand.hand
+        ∙ ap (λ l. Some (record { ticket = r.hand.ticket; reads = l; published = false })) hand_reads;
+    item = ap (λ (x : MoraState). x.item) value ∙ r.hand.item;
+  }
 
-    -- it ends as the step does
-    hand_ends : end_of b.problem b.entries r.hand.ticket m.reads ≡ Some end
-    unfolding end_of in_hand
-    hand_ends = sym (sym ended ∙ more.run.end ∙ ap (λ i. (run b.problem b.entries i m.reads).end) in_hand.item)
+  -- it ends as the step does
+  hand_ends : end_of b.problem b.entries r.hand.ticket m.reads ≡ Some end
+  unfolding end_of in_hand
+  hand_ends = sym (sym ended ∙ more.run.end ∙ ap (λ i. (run b.problem b.entries i m.reads).end) in_hand.item)
 
-    -- so there is work left unless it ends with Zero
-    left : is_working (plain_cornered b) ≡ is_left end
-    unfolding is_open in_hand
-    left = ap (has_open b.problem b.entries) in_hand.hand
-        ∙ ap (λ e. not false && (not (is_skipped b.problem b.entries (item_for b.problem r.hand.ticket)) && not (is_zero e))) hand_ends
-        ∙ still_open false (is_skipped b.problem b.entries (item_for b.problem r.hand.ticket)) (is_zero (end_of b.problem b.entries r.hand.ticket w.mora.reads))
-        (ap (has_open b.problem b.entries) (sym r.hand.hand) ∙ r.working) (is_zero (Some end))
-        ∙ left_is end
+  -- so there is work left unless it ends with Zero
+  left : is_working (plain_cornered b) ≡ is_left end
+  unfolding is_open in_hand
+  left = ap (has_open b.problem b.entries) in_hand.hand
+      ∙ ap (λ e. not false && (not (is_skipped b.problem b.entries (item_for b.problem r.hand.ticket)) && not (is_zero e))) hand_ends
+      ∙ still_open false (is_skipped b.problem b.entries (item_for b.problem r.hand.ticket)) (is_zero (end_of b.problem b.entries r.hand.ticket w.mora.reads))
+      (ap (has_open b.problem b.entries) (sym r.hand.hand) ∙ r.working) (is_zero (Some end))
+      ∙ left_is end
 
-    -- the worker holds what it held
-    still_holds : Holds b.problem b.entries (record w { mora = m })
-    still_holds = record {
-      table = r.holds.table;
-      over = subst (IsOver b.problem) (sym value) (record { field = r.holds.over.field; shape = r.holds.over.shape });
-      knows = subst (Knows b.entries) (sym value) (record { all = r.holds.knows.all; each = r.holds.knows.each; leads = r.holds.knows.leads });
-      leads = r.holds.leads;
-      shape = r.holds.shape;
-      cover = r.holds.cover;
-      room = r.holds.room;
-    }
+  -- the worker holds what it held
+  still_holds : Holds b.problem b.entries (record w { mora = m })
+  still_holds = record {
+    table = r.holds.table;
+    over = subst (IsOver b.problem) (sym value) (record { field = r.holds.over.field; shape = r.holds.over.shape });
+    knows = subst (Knows b.entries) (sym value) (record { all = r.holds.knows.all; each = r.holds.knows.each; leads = r.holds.knows.leads });
+    leads = r.holds.leads;
+    shape = r.holds.shape;
+    cover = r.holds.cover;
+    room = r.holds.room;
+  }
 
-    -- the state is sound
-    sound : IsSound (plain (plain_cornered b))
-    sound = keeps_sound (plain b) (plain (plain_cornered b)) 0 Corner r.sound (plain_reads b r.working)
+  -- the state is sound
+  sound : IsSound (plain (plain_cornered b))
+  sound = keeps_sound (plain b) (plain (plain_cornered b)) 0 Corner r.sound (plain_reads b r.working)
 
-    -- what holds after the step
-    pub stepped : HasRunTo (plain_cornered b) (record w { mora = m }) end
-    unfolding in_hand
-    stepped = record {
-      sound = sound;
-      working = left;
-      ended = ap (hand_end b.problem b.entries) in_hand.hand ∙ hand_ends;
-      holds = still_holds;
-      run = more;
-      hand = in_hand;
-      last = ap (last_known 0) reads_are ∙ last_known_more 0 w.mora.reads d ∙ ap (λ (x : Reading). x.known) is;
-    }
+  -- what holds after the step
+  pub stepped : HasRunTo (plain_cornered b) (record w { mora = m }) end
+  unfolding in_hand
+  stepped = record {
+    sound = sound;
+    working = left;
+    ended = ap (hand_end b.problem b.entries) in_hand.hand ∙ hand_ends;
+    holds = still_holds;
+    run = more;
+    hand = in_hand;
+    last = ap (last_known 0) reads_are ∙ last_known_more 0 w.mora.reads d ∙ ap (λ (x : Reading). x.known) is;
+  }
 
-    -- where the step reduced, the run goes on
-    pub goes_on : end ≡ Reduced → ((end ≡ Zero → ⊥) → m.is_open ≡ true) → IsRunning (plain_cornered b) (record w { mora = m })
-    goes_on reduced opened = record {
-      problem = r.problem;
-      sound = sound;
-      working = left ∙ ap is_left reduced;
-      holds = still_holds;
-      opened = opened (λ z. absurd (cc (sym reduced ∙ z)));
-      moving = λ e. absurd (cc (sym (ended ∙ ap Some reduced) ∙ e));
-      run = more;
-      hand = in_hand;
-    }
+  -- where the step reduced, the run goes on
+  pub goes_on : end ≡ Reduced → ((end ≡ Zero → ⊥) → m.is_open ≡ true) → IsRunning (plain_cornered b) (record w { mora = m })
+  goes_on reduced opened = record {
+    problem = r.problem;
+    sound = sound;
+    working = left ∙ ap is_left reduced;
+    holds = still_holds;
+    opened = opened (λ z. absurd (cc (sym reduced ∙ z)));
+    moving = λ e. absurd (cc (sym (ended ∙ ap Some reduced) ∙ e));
+    run = more;
+    hand = in_hand;
+  }
 
 -- a run has at most as many readings as there are monomials, and one more
 pub few_reads : (b : Plain) (w : Workspace) (e : StepEnd) → HasRunTo b w e → length w.mora.reads ≤ count_of b.problem + 1

@@ -1,9 +1,10 @@
 //! What every state keeps, whoever steps when. Each law is a call that does nothing, and whose contract is the law.
 
 ghost use Rattle.std.specs.Prelude.{◌≡◌, ◌≢◌, ◌+◌, ◌<◌, ◌≤◌, ℕ, suc, min, true, false, List, [], ◌∷◌, ◌++◌, length, Option};
-ghost use Rattle.sparse_poly.specs.Ideal.{Problem};
+ghost use Rattle.local_order.specs.Mono.{degree};
+ghost use Rattle.sparse_poly.specs.Ideal.{Problem, IsInIdeal};
 ghost use Rattle.entry_code.specs.Entry.{Entry};
-ghost use Rattle.mora_law.specs.Ring.{IsAdmissible};
+ghost use Rattle.mora_law.specs.Ring.{numbering_of, IsAdmissible};
 ghost use Rattle.mora_law.specs.declared.step_end.StepEnd.TheVariants.{Stuck};
 ghost use Rattle.mora_law.specs.Run.{last_known};
 ghost use Rattle.mora_law.specs.Entries.{corner};
@@ -60,6 +61,12 @@ pub fn hands_read_alike()
 /// The corner never rises when entries are added.
 pub fn corner_never_rises()
     ensures { (P : Problem) (entries : List Entry) (more : List Entry) → IsAdmissible P → corner P (entries ++ more) ≤ corner P entries }
+{}
+
+/// Every monomial from the corner on is in the ideal.
+pub fn cut_terms_are_members()
+    ensures { (s : State) (m : List ℕ) → IsSound s → length m ≡ s.problem.n → degree m ≤ s.problem.d
+        → s.corner ≤ (numbering_of s.problem).rank m → IsInIdeal s.problem (record { mono = m; coef = 1 } ∷ []) }
 {}
 
 /// A draft that may be published has at most as many readings and terms in all as there are monomials, and one more. There is a
