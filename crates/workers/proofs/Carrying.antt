@@ -1,51 +1,21 @@
 -- What stays while a ticket is carried: from step to step, past a longer list, and to its end.
 -- Each look learns an entry, so the looks and what is known rise together until the own entry is published.
-use Rattle.std.proofs.Common.{◌≡◌, ℕ, suc, ◌+◌, ◌-◌, ◌<◌, ◌≤◌, true, false, not, List, [], ◌∷◌, ◌++◌, length, Option, Some, None, refl, sym, ap, ◌∙◌, subst, arith}
+use Rattle.std.proofs.Common.{◌≡◌, ℕ, suc, ◌+◌, ◌-◌, ◌<◌, true, List, [], ◌∷◌, ◌++◌, length, Some, sym, ap, ◌∙◌, subst, arith}
 use Rattle.entry_code.specs.Entry.{Entry}
-use Rattle.mora_law.specs.declared.step_end.StepEnd.TheVariants.{Zero}
 use Rattle.mora_law.specs.Items.{item_for}
 use Rattle.mora_law.specs.Legal.{IsItemOf}
 use Rattle.mora_law.proofs.Prefixes.{prefix_append}
 use Rattle.mora_form.specs.State.{State as MoraState, HasRun}
-use Rattle.run_core.specs.Hand.{Hand, has_open, is_skipped, is_zero, marked, reads_of, draft}
+use Rattle.run_core.specs.Hand.{marked, reads_of, draft}
 use Rattle.run_core.specs.State.{count_of, steps_of}
 use Rattle.run_core.proofs.Ends.{skipped_longer}
 use Rattle.run_core.proofs.Running.{hand_with}
 use Rattle.run_core.specs.declared.workspace.Workspace.{Workspace}
-use Rattle.reducer_list.specs.View.{View, is_busy, top}
+use Rattle.reducer_list.specs.View.{View, top}
 use Rattle.reducer_list.specs.Steps.{learnt_view, made, posted}
 use Rattle.workers.specs.Working.{posted_in}
-use Rattle.workers.specs.Running.{IsKnown, IsInHand, IsAsBefore, Keeps, GoesOn, HasEnded, ticket_in}
+use Rattle.workers.specs.Running.{IsKnown, IsInHand, IsAsBefore, GoesOn, HasEnded, ticket_in}
 use Rattle.workers.proofs.Stepping.{reads_are, few_reads}
-
--- what stays, one after another
-keeps_both : (u v w : View) → Keeps u v → Keeps v w → Keeps u w
-keeps_both u v w a b = record {
-  setting = b.setting ∙ a.setting;
-  numbers = b.numbers ∙ a.numbers;
-  seen = b.seen ∙ a.seen;
-  claims = b.claims ∙ a.claims;
-  ticket = b.ticket ∙ a.ticket;
-}
-
--- so while a ticket goes on
-pub goes_both : (u v w : View) → GoesOn u v → GoesOn v w → GoesOn u w
-goes_both u v w a b = record { keeps = keeps_both u v w a.keeps b.keeps; published = b.published ∙ a.published; looks = omega (arith, a.looks, b.looks) }
-
--- and to its end
-pub goes_ended : (u v w : View) → GoesOn u v → HasEnded v w → HasEnded u w
-goes_ended u v w a b = record {
-  keeps = keeps_both u v w a.keeps b.keeps;
-  hand = b.hand;
-  some = b.some;
-  few = subst (λ p. length (reads_of w.seat.hand) ≤ top p + 1) a.keeps.setting b.few;
-  published = omega (arith, a.published, b.published);
-  looks = omega (arith, a.looks, b.looks);
-}
-
--- nothing changes
-pub goes_self : (v : View) → GoesOn v v
-goes_self v = record { keeps = record { setting = refl; numbers = refl; seen = refl; claims = refl; ticket = refl }; published = refl; looks = refl }
 
 -- the hand alone changes
 pub goes_as_before : (v w : View) → IsAsBefore v w → GoesOn v w

@@ -1,11 +1,11 @@
 -- Numbers from 0 on: the greatest goes to a new seat, and those below it stay.
 -- By induction on how many there are, from any number on.
-use Rattle.std.proofs.Common.{◌≡◌, ℕ, zero, suc, ◌+◌, ◌<◌, List, [], ◌∷◌, cond, eqb, false, refl, sym, ap, ◌∙◌, subst, arith, ne_eqb}
+use Rattle.std.proofs.Common.{◌≡◌, ℕ, zero, suc, ◌+◌, [], ◌∷◌, cond, eqb, false, refl, ap, ◌∙◌, arith, ne_eqb}
 use Rattle.std.specs.Prelude.{max}
 use Rattle.std.specs.List.{range_with_len}
 use Rattle.std.proofs.lemmas.Bool.{eq-eqb}
 use Rattle.run_core.specs.State.{highest, without}
-use Rattle.reducer_list.specs.View.{Setting, View}
+use Rattle.reducer_list.specs.View.{Setting}
 use Rattle.reducer_list.specs.Steps.{all_but_last, last_only, left_half, right_half}
 use Rattle.workers.specs.Rounds.{seat_with, low_seat}
 

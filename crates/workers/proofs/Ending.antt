@@ -1,21 +1,20 @@
 -- What a turn says at its end.
 -- The ticket that was claimed is carried; or a look found nothing when no ticket was left.
-use Rattle.std.proofs.Common.{◌≡◌, ℕ, suc, ◌+◌, ◌-◌, ◌*◌, ◌^◌, ◌<◌, ◌≤◌, false, true, length, Option, Some, refl, sym, ap, ◌∙◌, subst, arith, le_trans}
+use Rattle.std.proofs.Common.{◌≡◌, ℕ, suc, ◌+◌, ◌*◌, ◌^◌, ◌<◌, ◌≤◌, length, sym, ap, ◌∙◌, subst, arith}
 use Rattle.std.proofs.Math.Nat.{mul-le-mul}
 use Rattle.mora_law.proofs.Items.{tickets_up, tickets_is}
 use Rattle.mora_law.proofs.Ring.{ranks_count, count_is}
 use Rattle.run_core.specs.declared.workspace.Workspace.{Workspace}
-use Rattle.run_core.specs.Hand.{Hand, hand_of, reads_of}
 use Rattle.run_core.specs.State.{Seat}
 use Rattle.run_core.specs.Effects.{won, rested}
-use Rattle.reducer_list.specs.View.{View, Setting, Board, top, is_busy}
-use Rattle.reducer_list.specs.Steps.{with_seat, rests_if, looked}
+use Rattle.reducer_list.specs.View.{View, Setting, Board, top}
+use Rattle.reducer_list.specs.Steps.{with_seat}
 use Rattle.reducer_list.specs.Calls.{tickets_of, HasLooked}
-use Rattle.workers.specs.Working.{HasBounds, HasWorked, HasRested, posted_in, reduced_in}
+use Rattle.workers.specs.Working.{HasBounds, HasRested, reduced_in}
 use Rattle.workers.specs.declared.runner.Runner.{Runner}
-use Rattle.workers.specs.Running.{IsKnown, IsPlaced, IsShut, HasCarried, HasClaimed, ticket_in}
+use Rattle.workers.specs.Running.{IsKnown, IsPlaced, HasCarried}
 use Rattle.workers.proofs.Lasting.{shut_now}
-use Rattle.workers.proofs.Turning.{Turns, rests_keeps, rests_now}
+use Rattle.workers.proofs.Turning.{Turns, rests_now}
 
 -- what reduced is few, as it is at most N for each ticket
 pub count_small : (v : View) (s : Workspace) (n c : ℕ) → IsKnown v s → n ≤ top v.setting * c → c ≤ tickets_of v.setting (top v.setting) → n < 2 ^ 63
@@ -26,123 +25,64 @@ count_small v s n c k most claims =
     let product : top v.setting * c ≤ 4096 * c = mul-le-mul {n₁ = top v.setting} {m₁ = c} {n₂ = 4096} {m₂ = c} few (omega arith) in
     omega (arith, most, low, product, k.generators)
 
-module _ (b : Board) (f r : Runner) (at : IsPlaced b f) (bounds : HasBounds f.seat.view f.space.reductions) (t : Turns b f r) where
-  -- the setting is the same
-  same : r.seat.view.setting ≡ f.seat.view.setting
-  same = t.placed.board.1 ∙ sym at.board.1
+-- in a turn the setting stays
+same_setting : (b : Board) (f r : Runner) → IsPlaced b f → Turns b f r → r.seat.view.setting ≡ f.seat.view.setting
+same_setting b f r at t = t.placed.board.1 ∙ sym at.board.1
 
-  module _ (u : Runner) (k : ℕ) (known : IsPlaced b u) (ticket : k ≡ r.seat.view.seat.seen) (is : u.seat.view ≡ with_seat r.seat.view (won r.seat.view.seat))
-      (some : r.seat.view.seat.seen < tickets_of r.seat.view.setting r.seat.view.seat.known)
-      (few : u.seat.view.seat.claims ≤ tickets_of r.seat.view.setting (top r.seat.view.setting)) (count : u.space.reductions ≡ r.space.reductions) where
-    -- the ticket is in the hand
-    pub claimed : HasClaimed b u k
-    claimed = record {
-      placed = known;
-      hand = ap (λ (x : View). x.seat.hand) is ∙ ap (λ n. Some (hand_of n)) (sym ticket);
-      within = subst (λ (x : View). k < tickets_of x.setting x.seat.known) (sym is) (subst (λ n. n < tickets_of r.seat.view.setting r.seat.view.seat.known) (sym ticket) some);
-    }
+module _ (b : Board) (f r : Runner) (at : IsPlaced b f) (bounds : HasBounds f.seat.view f.space.reductions) (t : Turns b f r) (u : Runner)
+    (is : u.seat.view ≡ with_seat r.seat.view (won r.seat.view.seat)) (few : u.seat.view.seat.claims ≤ tickets_of r.seat.view.setting (top r.seat.view.setting))
+    (count : u.space.reductions ≡ r.space.reductions) where
+  -- once a ticket is claimed few steps have reduced so far
+  pub small : u.space.reductions < 2 ^ 63
+  small =
+      let c : u.seat.view.seat.claims ≡ suc f.seat.view.seat.claims = ap (λ (x : View). x.seat.claims) is ∙ ap suc t.claims in
+      let n : ℕ = top f.seat.view.setting in
+      let wide : n * f.seat.view.seat.claims ≤ n * u.seat.view.seat.claims = mul-le-mul {n₁ = n} {m₁ = f.seat.view.seat.claims} {n₂ = n} {m₂ = u.seat.view.seat.claims} (omega arith) (omega (arith, c)) in
+      let most : u.space.reductions ≤ n * u.seat.view.seat.claims = omega (arith, count, t.count, bounds.most, wide) in
+      count_small f.seat.view f.space u.space.reductions u.seat.view.seat.claims at.equipped.known most
+      (subst (λ (p : Setting). u.seat.view.seat.claims ≤ tickets_of p (top p)) (same_setting b f r at t) few)
 
-    -- so far few steps have reduced
-    pub small : u.space.reductions < 2 ^ 63
-    small =
-        let c : u.seat.view.seat.claims ≡ suc f.seat.view.seat.claims = ap (λ (x : View). x.seat.claims) is ∙ ap suc t.claims in
-        let n : ℕ = top f.seat.view.setting in
-        let wide : n * f.seat.view.seat.claims ≤ n * u.seat.view.seat.claims = mul-le-mul {n₁ = n} {m₁ = f.seat.view.seat.claims} {n₂ = n} {m₂ = u.seat.view.seat.claims} (omega arith) (omega (arith, c)) in
-        let most : u.space.reductions ≤ n * u.seat.view.seat.claims = omega (arith, count, t.count, bounds.most, wide) in
-        count_small f.seat.view f.space u.space.reductions u.seat.view.seat.claims at.equipped.known most (subst (λ (p : Setting). u.seat.view.seat.claims ≤ tickets_of p (top p)) same few)
+  -- and once it is carried the bounds hold again
+  pub worked_bounds : (w : Runner) → HasCarried u w → HasBounds w.seat.view w.space.reductions
+  worked_bounds w done =
+      let n : ℕ = top f.seat.view.setting in
+      let claims : w.seat.view.seat.claims ≡ suc f.seat.view.seat.claims = done.keeps.claims ∙ ap (λ (x : View). x.seat.claims) is ∙ ap suc t.claims in
+      let set : w.seat.view.setting ≡ f.seat.view.setting = done.keeps.setting ∙ ap (λ (x : View). x.setting) is ∙ same_setting b f r at t in
+      let top_u : top u.seat.view.setting ≡ n = ap top (ap (λ (x : View). x.setting) is ∙ same_setting b f r at t) in
+      let d : w.space.reductions ≡ f.space.reductions + reduced_in w.seat.view = done.count ∙ ap (λ c. c + reduced_in w.seat.view) (count ∙ t.count) in
+      let p : u.seat.view.seat.published ≡ f.seat.view.seat.published = ap (λ (x : View). x.seat.published) is ∙ t.published in
+      let z : ℕ = n * f.seat.view.seat.claims in
+      let product : n * suc f.seat.view.seat.claims ≡ z + n = grind arith in
+      let most : w.space.reductions ≤ n * suc f.seat.view.seat.claims = omega (arith, d, bounds.most, done.few, top_u, product) in
+      record {
+        most = subst (λ m. w.space.reductions ≤ m * w.seat.view.seat.claims) (sym (ap top set)) (subst (λ c. w.space.reductions ≤ n * c) (sym claims) most);
+        least = omega (arith, done.published, d, p, bounds.least);
+      }
 
-    module _ (w : Runner) (done : HasCarried u w) where
-      claims : w.seat.view.seat.claims ≡ suc f.seat.view.seat.claims
-      claims = done.keeps.claims ∙ ap (λ (x : View). x.seat.claims) is ∙ ap suc t.claims
+module _ (b : Board) (f r : Runner) (t : Turns b f r) (w : Runner) (none : tickets_of r.seat.view.setting r.seat.view.seat.known ≤ r.seat.view.seat.seen)
+    (look : HasLooked r.seat.view w.seat.view) (count : w.space.reductions ≡ r.space.reductions) where
+  -- the seat is as before but for the idle mark
+  is_rested : w.seat.view.seat ≡ rested r.seat.view.seat
+  is_rested = ap (λ (x : View). x.seat) look.1 ∙ rests_now r.seat.view (shut_now r.seat.view t.shut) none
 
-      seen : w.seat.view.seat.seen ≡ suc r.seat.view.seat.seen
-      seen = done.keeps.seen ∙ ap (λ (x : View). x.seat.seen) is
-
-      setting : w.seat.view.setting ≡ r.seat.view.setting
-      setting = done.keeps.setting ∙ ap (λ (x : View). x.setting) is
-
-      bound : reduced_in w.seat.view ≤ top f.seat.view.setting
-      bound =
-          let n : top u.seat.view.setting ≡ top f.seat.view.setting = ap top (ap (λ (x : View). x.setting) is ∙ same) in
-          omega (arith, done.few, n)
-
-      -- what the turn says
-      pub worked : HasWorked f.seat.view w.seat.view f.space.reductions w.space.reductions
-      worked =
-          let h = done.hand in
-          let in_hand : h.0.ticket ≡ r.seat.view.seat.seen = sym (ap ticket_in h.1) ∙ done.keeps.ticket ∙ ap (λ (x : View). ticket_in x.seat.hand) is in
-          let n : top w.seat.view.setting ≡ top f.seat.view.setting = ap top (setting ∙ same) in
-          let l = ap (λ (x : View). x.looks) is in
-          let k = ap (λ (x : View). x.seat.known) is in
-          record {
-            claims = claims;
-            few = subst (λ (p : Setting). w.seat.view.seat.claims ≤ tickets_of p (top p)) (sym setting) (subst (λ c. c ≤ tickets_of r.seat.view.setting (top r.seat.view.setting)) (sym done.keeps.claims) few);
-            seen = omega (arith, seen, t.seen);
-            hand = (h.0, h.1, seen ∙ ap suc (sym in_hand));
-            looks = omega (arith, done.looks, l, k, t.looks);
-            count = done.count ∙ ap (λ c. c + reduced_in w.seat.view) (count ∙ t.count);
-            bound = omega (arith, bound, n);
-          }
-
-      -- the bounds hold again
-      pub worked_bounds : HasBounds w.seat.view w.space.reductions
-      worked_bounds =
-          let n : ℕ = top f.seat.view.setting in
-          let d : w.space.reductions ≡ f.space.reductions + reduced_in w.seat.view = done.count ∙ ap (λ c. c + reduced_in w.seat.view) (count ∙ t.count) in
-          let p : u.seat.view.seat.published ≡ f.seat.view.seat.published = ap (λ (x : View). x.seat.published) is ∙ t.published in
-          let z : ℕ = n * f.seat.view.seat.claims in
-          let product : n * suc f.seat.view.seat.claims ≡ z + n = grind arith in
-          let most : w.space.reductions ≤ n * suc f.seat.view.seat.claims = omega (arith, d, bounds.most, bound, product) in
-          record {
-            most = subst (λ m. w.space.reductions ≤ m * w.seat.view.seat.claims) (sym (ap top (setting ∙ same))) (subst (λ c. w.space.reductions ≤ n * c) (sym claims) most);
-            least = omega (arith, done.published, d, p, bounds.least);
-          }
-
-  module _ (w : Runner) (none : tickets_of r.seat.view.setting r.seat.view.seat.known ≤ r.seat.view.seat.seen) (look : HasLooked r.seat.view w.seat.view) (count : w.space.reductions ≡ r.space.reductions) where
-    idle_now : rests_if r.seat.view ≡ rested r.seat.view.seat
-    idle_now = rests_now r.seat.view (shut_now r.seat.view t.shut) none
-
-    is_rested : w.seat.view.seat ≡ rested r.seat.view.seat
-    is_rested = ap (λ (x : View). x.seat) look.1 ∙ idle_now
-
-    -- what the turn says
-    pub rested_now : HasRested f.seat.view w.seat.view f.space.reductions w.space.reductions
-    rested_now =
-        let s = is_rested in
-        let l : w.seat.view.looks ≡ suc r.seat.view.looks = ap (λ (x : View). x.looks) look.1 in
-        let seen : w.seat.view.seat.seen ≡ r.seat.view.seat.seen = ap (λ (x : Seat). x.seen) s in
-        let set : w.seat.view.setting ≡ r.seat.view.setting = ap (λ (x : View). x.setting) look.1 in
-        let known : w.seat.view.seat.known ≡ r.seat.view.seat.known = ap (λ (x : Seat). x.known) s in
-        record {
-          then_ = r.seat.view;
-          load = look;
-          tickets = look.3 none;
-          this = omega (arith, t.looks, t.known);
-          idle = ap (λ (x : Seat). x.idle) s;
-          looks = omega (arith, l, t.looks, t.known);
-          claims = ap (λ (x : Seat). x.claims) s ∙ t.claims;
-          seen = omega (arith, seen, t.seen);
-          known = seen ∙ look.3 none ∙ ap (λ (p : Setting). tickets_of p r.seat.view.seat.known) (sym set) ∙ ap (tickets_of w.seat.view.setting) (sym known);
-          last = look.2;
-          count = count ∙ t.count;
-        }
-
-    -- the bounds hold again
-    pub rested_bounds : HasBounds w.seat.view w.space.reductions
-    rested_bounds =
-        let s = is_rested in
-        let set : w.seat.view.setting ≡ f.seat.view.setting = ap (λ (x : View). x.setting) look.1 ∙ same in
-        let c : w.seat.view.seat.claims ≡ f.seat.view.seat.claims = ap (λ (x : Seat). x.claims) s ∙ t.claims in
-        let p : w.seat.view.seat.published ≡ f.seat.view.seat.published = ap (λ (x : Seat). x.published) s ∙ t.published in
-        record {
-          most = subst (λ m. w.space.reductions ≤ m * w.seat.view.seat.claims) (sym (ap top set)) (subst (λ n. w.space.reductions ≤ top f.seat.view.setting * n) (sym c) (omega (arith, count, t.count, bounds.most)));
-          least = omega (arith, count, t.count, p, bounds.least);
-        }
-
-    -- there is no work, and none will come
-    pub rested_shut : IsShut w.seat.view
-    rested_shut = subst IsShut (sym look.1) (subst (λ (s : Seat). IsShut (record r.seat.view { seat = s; looks = suc r.seat.view.looks })) (sym idle_now) t.shut)
-
-    -- its numbers
-    pub rested_numbers : w.seat.view.seat.numbers ≡ f.seat.view.seat.numbers
-    rested_numbers = ap (λ (x : Seat). x.numbers) is_rested ∙ t.numbers
+  -- what a turn says that finds no ticket
+  pub rested_now : HasRested f.seat.view w.seat.view f.space.reductions w.space.reductions
+  rested_now =
+      let s = is_rested in
+      let l : w.seat.view.looks ≡ suc r.seat.view.looks = ap (λ (x : View). x.looks) look.1 in
+      let seen : w.seat.view.seat.seen ≡ r.seat.view.seat.seen = ap (λ (x : Seat). x.seen) s in
+      let set : w.seat.view.setting ≡ r.seat.view.setting = ap (λ (x : View). x.setting) look.1 in
+      let known : w.seat.view.seat.known ≡ r.seat.view.seat.known = ap (λ (x : Seat). x.known) s in
+      record {
+        then_ = r.seat.view;
+        load = look;
+        tickets = look.3 none;
+        this = omega (arith, t.looks, t.known);
+        idle = ap (λ (x : Seat). x.idle) s;
+        looks = omega (arith, l, t.looks, t.known);
+        claims = ap (λ (x : Seat). x.claims) s ∙ t.claims;
+        seen = omega (arith, seen, t.seen);
+        known = seen ∙ look.3 none ∙ ap (λ (p : Setting). tickets_of p r.seat.view.seat.known) (sym set) ∙ ap (tickets_of w.seat.view.setting) (sym known);
+        last = look.2;
+        count = count ∙ t.count;
+      }

@@ -1,9 +1,8 @@
 -- What is left once all seats are one.
 -- The sums over the first worker and the others are those over all, and the one seat has them.
-use Rattle.std.proofs.Common.{◌≡◌, ℕ, ◌+◌, ◌*◌, ◌≤◌, List, [], ◌∷◌, ◌++◌, length, map, refl, sym, ap, ◌∙◌, subst, arith}
+use Rattle.std.proofs.Common.{◌≡◌, ℕ, ◌*◌, ◌≤◌, List, [], ◌∷◌, ◌++◌, length, map, refl, sym, ap, ◌∙◌, subst, arith}
 use Rattle.std.specs.Prelude.{sum_by, All}
 use Rattle.std.proofs.lemmas.List.Sums.{sum_by-append}
-use Rattle.entry_code.specs.Entry.{Entry}
 use Rattle.mora_law.specs.Legal.{Legal}
 use Rattle.mora_law.specs.Tickets.{total}
 use Rattle.run_core.specs.Idle.{SettlesAll}

@@ -12,7 +12,7 @@ use Rattle.run_core.specs.State.{times}
 use Rattle.reducer_list.specs.View.{Setting, View, Begins, top}
 use Rattle.reducer_list.specs.Steps.{both}
 use Rattle.workers.specs.Working.{Working, numbers_of, IsCounted}
-use Rattle.workers.specs.Manned.{HasNumber, HasEvery, KnowsOf}
+use Rattle.workers.specs.Manned.{HasNumber, HasEvery}
 use Rattle.workers.specs.Rounds.{IsLegalView, claims_of, published_of}
 
 -- ---- the last of a list

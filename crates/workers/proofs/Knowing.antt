@@ -1,6 +1,6 @@
 -- What a worker knows after each step of its seat.
 -- The list stays, or has one entry more, which the workspace has learnt then.
-use Rattle.std.proofs.Common.{◌≡◌, ℕ, suc, ◌+◌, ◌≤◌, List, [], ◌∷◌, ◌++◌, length, refl, sym, ap, ◌∙◌, subst, arith, length-append}
+use Rattle.std.proofs.Common.{◌≡◌, ℕ, ◌+◌, ◌≤◌, List, [], ◌∷◌, ◌++◌, length, sym, ap, ◌∙◌, subst, arith, length-append}
 use Rattle.sparse_poly.specs.Ideal.{Problem}
 use Rattle.std.specs.Prelude.{vec_len}
 use Rattle.entry_code.specs.Entry.{Entry, HasRoom, entry_at, no_entry}
@@ -9,22 +9,10 @@ use Rattle.mora_law.specs.Legal.{Legal}
 use Rattle.run_core.specs.declared.workspace.Workspace.{Workspace}
 use Rattle.run_core.specs.Work.{Holds}
 use Rattle.reducer_list.specs.View.{View, Setting, Board, top}
-use Rattle.reducer_list.specs.Steps.{learnt_view, made, posted}
+use Rattle.reducer_list.specs.Steps.{made, posted}
 use Rattle.reducer_list.specs.Calls.{IsAt}
 use Rattle.workers.specs.declared.runner.Runner.{Runner}
 use Rattle.workers.specs.Running.{IsKnown, IsPlaced}
-
--- once an entry is learnt
-pub known_learnt : (v w : View) (s s' : Workspace) (e : Entry) → IsKnown v s → w ≡ record (learnt_view e v) { looks = suc v.looks } →
-    Legal v.setting.problem (v.list ++ e ∷ []) → Holds v.setting.problem (v.list ++ e ∷ []) s' → IsKnown w s'
-known_learnt v w s s' e k is legal holds = subst (λ (u : View). IsKnown u s') (sym is) (record {
-  problem = k.problem;
-  generators = k.generators;
-  legal = legal;
-  count = omega (arith, k.count, length-append v.list (e ∷ []));
-  quiet = refl;
-  holds = holds;
-})
 
 -- once the own entry is published
 pub known_posted : (v w : View) (s s' : Workspace) → IsKnown v s → w ≡ posted v →

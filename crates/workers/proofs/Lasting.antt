@@ -1,6 +1,6 @@
 -- A hand that is done with stays so, whatever its seat learns.
 -- Its pair is skipped by more entries too; a run sees no entries but those that its readings knew; and a mark stays.
-use Rattle.std.proofs.Common.{◌≡◌, ℕ, suc, ◌<◌, ◌≤◌, Bool, true, false, not, ◌&&◌, List, [], ◌∷◌, ◌++◌, length, Option, Some, refl, sym, ap, ◌∙◌, subst, arith}
+use Rattle.std.proofs.Common.{◌≡◌, ℕ, suc, ◌<◌, ◌≤◌, Bool, true, false, not, ◌&&◌, List, [], ◌∷◌, ◌++◌, length, Some, refl, sym, ap, ◌∙◌, subst, arith}
 use Rattle.std.specs.Prelude.{All}
 use mathlib.Core.List.{append-nil, append_assoc}
 use Rattle.rank_algebra.specs.Ranks.{Ranks}
@@ -20,7 +20,7 @@ use Rattle.mora_law.specs.Legal.{IsItemOf}
 use Rattle.mora_law.proofs.Items.{item_fits}
 use Rattle.mora_law.proofs.Prefixes.{IsPrefix, begins, step_same, start_same, prefix_append}
 use Rattle.mora_form.specs.State.{State as MoraState}
-use Rattle.run_core.specs.Hand.{Hand, hand_of, has_open, is_open, is_skipped, is_zero, end_of, marked}
+use Rattle.run_core.specs.Hand.{hand_of, has_open, is_open, is_skipped, is_zero, end_of, marked}
 use Rattle.run_core.proofs.Ends.{skipped_longer}
 use Rattle.run_core.proofs.Replays.{marked_is_shut}
 use Rattle.reducer_list.specs.View.{View, is_busy}

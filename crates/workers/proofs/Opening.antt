@@ -6,9 +6,8 @@ use Rattle.sparse_poly.specs.Shape.{shape_of}
 use Rattle.sparse_poly.specs.Ideal.{IsProblem}
 use Rattle.mora_law.proofs.Ring.{ranks_count, count_is}
 use Rattle.run_core.specs.declared.workspace.Workspace.{Workspace}
-use Rattle.run_core.specs.State.{count_of}
 use Rattle.run_core.specs.Work.{Holds}
-use Rattle.reducer_list.specs.View.{View, Setting, top}
+use Rattle.reducer_list.specs.View.{Setting, top}
 use Rattle.workers.specs.Working.{HasBounds}
 use Rattle.workers.specs.Running.{IsKnown, IsShut}
 use Rattle.workers.specs.Rounds.{seat_with}

@@ -1,26 +1,21 @@
 -- A step of a run over what its seat knows, and what stays of the seat.
 -- The hand gains the reading that the run records, so both have the same readings.
-use Rattle.std.proofs.Common.{◌≡◌, ◌≢◌, ℕ, zero, suc, ◌+◌, ◌≤◌, true, false, not, List, [], ◌∷◌, ◌++◌, length, take, Some, None, refl, sym, ap, ◌∙◌, subst, arith}
-use Rattle.std.specs.Prelude.{All, Option}
-use Rattle.sparse_poly.specs.Ideal.{Problem}
+use Rattle.std.proofs.Common.{◌≡◌, ℕ, zero, suc, ◌+◌, ◌≤◌, not, List, [], ◌∷◌, ◌++◌, length, Some, sym, ap, ◌∙◌, subst, arith}
+use Rattle.std.specs.Prelude.{All}
 use Rattle.entry_code.specs.declared.reading.Reading.{Reading}
-use Rattle.entry_code.specs.Entry.{Entry}
-use Rattle.mora_law.specs.declared.step_end.StepEnd.{StepEnd}
-use Rattle.mora_law.specs.declared.step_end.StepEnd.TheVariants.{Zero, Reduced, Stuck}
+use Rattle.mora_law.specs.declared.step_end.StepEnd.TheVariants.{Stuck}
 use Rattle.mora_law.specs.Run.{last_known}
-use Rattle.mora_law.specs.Items.{item_for}
 use Rattle.mora_law.proofs.Readings.{last_known_more}
 use Rattle.mora_law.proofs.Ring.{problem_is_admissible}
 use Rattle.mora_form.specs.State.{State as MoraState, HasRun, Knows, IsOver, recorded}
 use Rattle.run_core.specs.declared.workspace.Workspace.{Workspace}
-use Rattle.run_core.specs.Hand.{Hand, has_open, is_open, is_zero, hand_end, reads_of, read}
+use Rattle.run_core.specs.Hand.{has_open, is_zero, hand_end, reads_of, read}
 use Rattle.run_core.specs.State.{count_of}
-use Rattle.run_core.specs.Work.{Holds}
 use Rattle.run_core.proofs.Room.{reads_room}
-use Rattle.run_core.proofs.Running.{hand_with, ends_alike, reads_alike, open_alike, draft_alike}
-use Rattle.reducer_list.specs.View.{View, Setting, is_busy}
-use Rattle.reducer_list.specs.Steps.{AreAbove, cornered, made, IsStuck}
-use Rattle.workers.specs.Running.{IsKnown, IsInHand, IsAsBefore, ticket_in}
+use Rattle.run_core.proofs.Running.{hand_with, ends_alike, reads_alike, open_alike}
+use Rattle.reducer_list.specs.View.{View, is_busy}
+use Rattle.reducer_list.specs.Steps.{AreAbove, cornered, IsStuck}
+use Rattle.workers.specs.Running.{IsKnown, IsInHand, ticket_in}
 
 -- a corner that is at most that of each reading
 pub above_all : (c : ℕ) (ds : List Reading) → AreAbove c ds → All (λ d. c ≤ d.corner) ds
@@ -101,22 +96,8 @@ module _ (v w : View) (s : Workspace) (m : MoraState) (h : IsInHand v s.mora) (d
   pub last_more : last_known 0 m.reads ≡ w.seat.known
   last_more = ap (last_known 0) reads_more ∙ last_known_more 0 (recorded s.mora.end s.mora.reads) d ∙ known ∙ sym (ap (λ (u : View). u.seat.known) is)
 
-  -- the seat is as before but for its hand
-  pub as_before_more : IsAsBefore v w
-  as_before_more = record {
-    hand = is ∙ ap (λ o. record v { seat = record v.seat { hand = o } }) (sym (ap (λ (u : View). u.seat.hand) is));
-    ticket = ap (λ (u : View). ticket_in u.seat.hand) is ∙ ap ticket_in hand_more ∙ sym (ticket_is v s.mora h);
-  }
-
   -- what is known stays
   pub known_more : IsKnown v s → IsKnown w (record s { mora = m })
   known_more k =
       let z = known_run v s m k (value ∙ (λ t. record s.mora { is_open = m.is_open; item = sym (ap (λ (x : MoraState). x.item) value) t; reads = sym reads_more t; end = m.end; poly = m.poly; kept = m.kept })) in
       subst (λ (u : View). IsKnown u (record s { mora = m })) (sym is) (record { problem = z.problem; generators = z.generators; legal = z.legal; count = z.count; quiet = z.quiet; holds = z.holds })
-
--- one change of the hand after another
-pub as_before_both : (u v w : View) → IsAsBefore u v → IsAsBefore v w → IsAsBefore u w
-as_before_both u v w a b = record {
-  hand = b.hand ∙ ap (λ (x : View). record x { seat = record x.seat { hand = w.seat.hand } }) a.hand;
-  ticket = b.ticket ∙ a.ticket;
-}

@@ -1,5 +1,5 @@
 -- What a worker's part of a round does, and how a crew is made and taken apart. Ours.
-use Rattle.std.specs.Prelude.{◌≡◌, ℕ, ◌+◌, ◌-◌, ◌<◌, ◌≤◌, true, false, List, [], ◌∷◌, length, sum_by, All}
+use Rattle.std.specs.Prelude.{◌≡◌, ℕ, ◌+◌, ◌-◌, ◌<◌, ◌≤◌, true, false, List, length, sum_by, All}
 use Rattle.std.specs.List.{range_with_len}
 use Rattle.mora_law.specs.Legal.{Legal}
 use Rattle.run_core.specs.State.{fresh, steps_of}

@@ -1,10 +1,10 @@
-use Rattle.std.proofs.Common.{◌≡◌, ◌≤◌, ◌+◌, ◌-◌, ◌<◌, ℕ, suc, [], ◌∷◌, length, sym, ap, ◌∙◌, subst, arith, inl, inr, ⊎_elim, length-append}
+use Rattle.std.proofs.Common.{◌≡◌, ◌+◌, ◌-◌, ℕ, suc, [], ◌∷◌, length, sym, ap, ◌∙◌, subst, arith, inl, inr, ⊎_elim, length-append}
 use Rattle.std.proofs.lemmas.Bool.{cases_lt}
 use Rattle.std.proofs.lemmas.List.FromFn.{length-range_with_len}
 use Rattle.reducer_list.specs.View.{View, Setting, Sitting, is_busy}
 use Rattle.reducer_list.specs.Steps.{left_half, right_half}
 use Rattle.reducer_list.specs.Calls.{IsAt}
-use Rattle.workers.specs.Working.{Working, CanTurn, numbers_of}
+use Rattle.workers.specs.Working.{Working, CanTurn}
 use Rattle.workers.specs.Rounds.{seat_with, low_seat}
 use Rattle.workers.proofs.Dealing.{left_low, right_low}
 use Rattle.workers.proofs.Gathering.{all_more, number_more}

@@ -1,8 +1,7 @@
-use Rattle.std.proofs.Common.{◌≡◌, ℕ, ◌+◌, ◌<◌, List, [], ◌∷◌, ◌++◌, map, length, true, false, refl, sym, ap, ◌∙◌, subst, arith, rules}
-use Rattle.std.specs.Prelude.{◌&&◌, All, sum_by}
-use Rattle.entry_code.specs.Entry.{Entry}
-use Rattle.reducer_list.specs.View.{View, Setting, Sitting, Begins, is_busy}
-use Rattle.reducer_list.specs.Steps.{both, LastIdle}
+use Rattle.std.proofs.Common.{◌≡◌, ℕ, ◌<◌, List, ◌∷◌, map, length, false, sym, ap, ◌∙◌, subst, arith, rules}
+use Rattle.std.specs.Prelude.{◌&&◌}
+use Rattle.reducer_list.specs.View.{View, Setting, Begins, is_busy}
+use Rattle.reducer_list.specs.Steps.{both}
 use Rattle.reducer_list.specs.Calls.{IsAt}
 use Rattle.workers.specs.Working.{Working, numbers_of}
 use Rattle.workers.specs.Manned.{HasEvery, KnowsOf}

@@ -1,5 +1,4 @@
-use Rattle.std.proofs.Common.{sym, ap, ◌∙◌, rules}
-use Rattle.workers.specs.Working.{Working}
+use Rattle.std.proofs.Common.{sym, ◌∙◌, rules}
 use Rattle.workers.proofs.rounds.all_rest.Goals as goal
 
 pub returns-then-not-rests-clause-some : goal.returns-then-not-rests-clause-some

@@ -1,11 +1,10 @@
-use Rattle.std.proofs.Common.{◌≡◌, ℕ, ◌+◌, ◌≤◌, List, [], ◌∷◌, ◌++◌, length, map, sym, ap, ◌∙◌, subst, arith, rules, length-append}
+use Rattle.std.proofs.Common.{◌≡◌, ◌+◌, ◌≤◌, List, [], ◌∷◌, length, map, sym, ap, ◌∙◌, subst, arith, rules, length-append}
 use Rattle.std.specs.Prelude.{All}
 use Rattle.entry_code.specs.Entry.{Entry, HasRoom}
 use Rattle.mora_law.specs.Legal.{Legal}
 use Rattle.run_core.specs.Idle.{SettlesAll}
-use Rattle.reducer_list.specs.View.{View, Setting, Board, top}
+use Rattle.reducer_list.specs.View.{Setting, Board, top}
 use Rattle.reducer_list.specs.Steps.{LastIdle}
-use Rattle.reducer_list.specs.Calls.{IsAt}
 use Rattle.workers.specs.Working.{Working, CanTurn, IsCounted, numbers_of}
 use Rattle.workers.specs.Manned.{IsIdle, HasLast, HasEvery, KnowsOf, AreCounts}
 use Rattle.workers.specs.Rounds.{CanEnd, IsLegalView}

@@ -1,11 +1,7 @@
-use Rattle.std.proofs.Common.{◌≡◌, ◌<◌, ◌≤◌, length, [], None, true, false, sym, ap, ◌∙◌, subst, arith, refl}
-use Rattle.mora_law.specs.Legal.{Legal, IsItemOf}
-use Rattle.mora_law.specs.Items.{item_of, item_for, tickets}
-use Rattle.mora_law.proofs.Items.{item_fits, tickets_up, tickets_is}
-use Rattle.sparse_poly.specs.Ideal.{Problem}
-use Rattle.mora_form.specs.State.{State as MoraState, HasRun}
-use Rattle.run_core.specs.Work.{Holds}
-use Rattle.workers.proofs.Knowing.{problem_here}
+use Rattle.std.proofs.Common.{length, sym, ap, ◌∙◌, subst, arith}
+use Rattle.mora_law.specs.Legal.{IsItemOf}
+use Rattle.mora_law.specs.Items.{tickets}
+use Rattle.mora_law.proofs.Items.{tickets_is}
 use Rattle.workers.proofs.Beginning.{item_small, fits_told, skips_with, skips_is}
 use Rattle.workers.proofs.Lasting.{skipped_shut}
 use Rattle.workers.proofs.runner.Runner.begin.Goals as goal

@@ -1,15 +1,13 @@
-use Rattle.std.proofs.Common.{◌≡◌, suc, List, [], ◌∷◌, ◌++◌, length, Some, None, sym, ap, ◌∙◌, subst, refl, false, true}
+use Rattle.std.proofs.Common.{◌≡◌, suc, [], ◌∷◌, ◌++◌, Some, sym, ap, ◌∙◌, subst, refl}
 use Rattle.entry_code.specs.Entry.{Entry, entry_of, entry_at}
 use Rattle.mora_law.specs.Legal.{Legal}
-use Rattle.mora_law.specs.declared.step_end.StepEnd.TheVariants.{Stuck}
 use Rattle.entry_code.specs.Words.{words_of}
 use Rattle.mora_form.specs.State.{State as MoraState, HasRun}
 use Rattle.run_core.specs.Hand.{reads_of, marked, is_zero}
 use Rattle.run_core.specs.Work.{Holds}
 use Rattle.run_core.proofs.Running.{draft_alike}
-use Rattle.reducer_list.specs.View.{View, Setting}
+use Rattle.reducer_list.specs.View.{View}
 use Rattle.reducer_list.specs.Steps.{made, posted, learnt_view}
-use Rattle.workers.specs.Running.{IsKnown}
 use Rattle.workers.proofs.Knowing.{known_posted, next_known, own_entry, placed_with, problem_here}
 use Rattle.workers.proofs.Stepping.{stuck_is}
 use Rattle.workers.proofs.Carrying.{ended_posted, goes_longer, in_hand_longer}

@@ -1,5 +1,4 @@
-use Rattle.std.proofs.Common.{◌≡◌, ap, arith, sym, ◌∙◌, length, refl, Some}
-use Rattle.mora_law.specs.declared.step_end.StepEnd.TheVariants.{Reduced, Stuck}
+use Rattle.std.proofs.Common.{◌≡◌, ap, arith, sym, ◌∙◌, Some}
 use Rattle.run_core.specs.State.{count_of}
 use Rattle.reducer_list.specs.View.{Setting}
 use Rattle.workers.proofs.Stepping.{few_reads}

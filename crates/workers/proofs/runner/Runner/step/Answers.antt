@@ -1,4 +1,4 @@
-use Rattle.std.proofs.Common.{◌≡◌, not, subst, sym, ap, ◌∙◌, arith, refl}
+use Rattle.std.proofs.Common.{◌≡◌, not, subst, ap, ◌∙◌, refl}
 use Rattle.entry_code.specs.declared.reading.Reading.{Reading}
 use Rattle.mora_law.proofs.Ring.{problem_is_admissible}
 use Rattle.mora_form.specs.State.{HasRun}

@@ -1,11 +1,9 @@
-use Rattle.std.proofs.Common.{◌≡◌, suc, ◌+◌, ◌-◌, ◌*◌, ◌<◌, ◌≤◌, sym, ap, ◌∙◌, subst, refl}
-use Rattle.run_core.specs.Effects.{won}
+use Rattle.std.proofs.Common.{suc, ◌+◌, ◌-◌, ◌*◌, ◌<◌, ◌≤◌, sym, subst, refl}
 use Rattle.reducer_list.specs.View.{View, top}
 use Rattle.reducer_list.specs.Calls.{tickets_of}
 use Rattle.workers.specs.declared.runner.Runner.{Runner}
-use Rattle.workers.specs.Running.{IsPlaced}
 use Rattle.workers.proofs.Lasting.{shut_now}
-use Rattle.workers.proofs.Turning.{Turns, turns_left, turns_none, learnt_left, placed_seat}
+use Rattle.workers.proofs.Turning.{Turns, turns_left, turns_none, learnt_left}
 use Rattle.workers.proofs.Ending.{rested_now, small, worked_bounds}
 use Rattle.workers.proofs.runner.Runner.turn.Goals as goal
 
@@ -18,7 +16,7 @@ returns-then-not-learn-clause-turn g c =
     let r : Runner = c.loop-self.self in
     let call = c.in-NoneKnown.ensures.call in
     let now : Turns b c.args.self.now (record r { seat = c.claim.new.seat }) = turns_none b c.args.self.now r c.loop-self.invariant c.claim.new.seat c.in-NoneKnown.ensures.board call.1 in
-    rested_now b c.args.self.now (record r { seat = c.claim.new.seat }) c.requires.placed c.requires.bounds now c.learn.new.self
+    rested_now b c.args.self.now (record r { seat = c.claim.new.seat }) now c.learn.new.self
     (subst (λ (u : View). tickets_of u.setting u.seat.known ≤ u.seat.seen) (sym call.1) call.0) c.if-not-learn.ensures.look c.learn.ensures.count
 
 pub loop-self-smaller-else-not-learn : goal.loop-self-smaller-else-not-learn
@@ -32,18 +30,11 @@ loop-self-smaller-else-not-learn g c =
 
 pub carry-requires-clause-small : goal.carry-requires-clause-small
 carry-requires-clause-small g c =
-    let b = c.args.board.now in
-    let r : Runner = c.loop-self.self in
     let call = c.in-Claimed.ensures.call in
-    let u : Runner = record r { seat = c.claim.new.seat } in
-    let placed : IsPlaced b u = placed_seat b r c.claim.new.seat (won r.seat.view.seat) c.loop-self.invariant.placed c.in-Claimed.ensures.board call.2 refl refl in
-    small b c.args.self.now r c.requires.placed c.requires.bounds c.loop-self.invariant u c.in-Claimed.ticket placed call.1 call.2 call.0 call.3 refl
+    small c.args.board.now c.args.self.now c.loop-self.self c.requires.placed c.requires.bounds c.loop-self.invariant (record c.loop-self.self { seat = c.claim.new.seat }) call.2 call.3 refl
 
 pub returns-in-Claimed-clause-bounds : goal.returns-in-Claimed-clause-bounds
 returns-in-Claimed-clause-bounds g c =
-    let b = c.args.board.now in
-    let r : Runner = c.loop-self.self in
     let call = c.in-Claimed.ensures.call in
-    let u : Runner = record r { seat = c.claim.new.seat } in
-    let placed : IsPlaced b u = placed_seat b r c.claim.new.seat (won r.seat.view.seat) c.loop-self.invariant.placed c.in-Claimed.ensures.board call.2 refl refl in
-    worked_bounds b c.args.self.now r c.requires.placed c.requires.bounds c.loop-self.invariant u c.in-Claimed.ticket placed call.1 call.2 call.0 call.3 refl c.carry.new.self c.carry.ensures.carried
+    worked_bounds c.args.board.now c.args.self.now c.loop-self.self c.requires.placed c.requires.bounds c.loop-self.invariant (record c.loop-self.self { seat = c.claim.new.seat }) call.2 call.3 refl
+    c.carry.new.self c.carry.ensures.carried

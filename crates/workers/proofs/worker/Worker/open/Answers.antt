@@ -1,4 +1,4 @@
-use Rattle.std.proofs.Common.{◌≡◌, ◌+◌, ◌<◌, ◌≤◌, ◌^◌, ◌∷◌, [], length, sym, ap, ◌∙◌, subst, arith}
+use Rattle.std.proofs.Common.{◌+◌, ◌<◌, ◌≤◌, ◌^◌, ◌∷◌, [], length, sym, ap, subst, arith}
 use Rattle.sparse_poly.specs.Ideal.{Problem, IsProblem}
 use Rattle.entry_code.specs.Entry.{HasRoom}
 use Rattle.run_core.specs.Work.{Holds}

@@ -1,4 +1,4 @@
-use Rattle.std.proofs.Common.{◌≡◌, suc, ◌<◌, ◌≤◌, true, true≢false, sym, ap, ◌∙◌, subst, arith}
+use Rattle.std.proofs.Common.{◌≤◌, true, true≢false, sym, ◌∙◌, subst, arith}
 use Rattle.reducer_list.specs.View.{Setting, top}
 use Rattle.reducer_list.specs.Calls.{tickets_of}
 use Rattle.workers.specs.Working.{Working}
