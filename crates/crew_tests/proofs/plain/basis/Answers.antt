@@ -1,0 +1,5 @@
+use Rattle.std.proofs.Common.{inl}
+use Rattle.crew_tests.proofs.plain.basis.Goals as goal
+
+pub reduced-requires-clause-settled : goal.reduced-requires-clause-settled
+reduced-requires-clause-settled c = λ item t l. inl (c.requires.settled item t l)
