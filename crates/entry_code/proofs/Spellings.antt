@@ -37,11 +37,12 @@ said_readings (x ∷ xs) h = λ k d l. go k d l (λ j m. said_readings xs (λ i 
     go zero d l rest = h 0 (reading_in x) (omega arith)
     go (suc k) d l rest = rest k (omega (arith, l))
 
--- words are those of what they say
+-- the words of the readings that words say are these words
 readings_again : (xs : List ℕ) → map reading_word (map reading_in xs) ≡ xs
 readings_again [] = refl
 readings_again (x ∷ xs) = λ i. reading_again x i ∷ readings_again xs i
 
+-- the words of the terms that words say are these words
 terms_again : (xs : List ℕ) → map term_word (map term_in xs) ≡ xs
 terms_again [] = refl
 terms_again (x ∷ xs) = λ i. term_again x i ∷ terms_again xs i
@@ -57,12 +58,13 @@ module _ {A : Type 0} where
   drop_front [] m = refl
   drop_front (x ∷ l) m = drop_front l m
 
-  -- a list without its first members
+  -- as many members are taken as the list has
   length_rest : (l : List A) (k : ℕ) → k ≤ length l → length (take k l) ≡ k
   length_rest l zero le = refl
   length_rest [] (suc k) le = absurd (omega arith)
   length_rest (x ∷ l) (suc k) le = ap suc (length_rest l k (omega arith))
 
+  -- a list has as many members as its front and what is left behind it
   drop_rest : (l : List A) (k : ℕ) → k ≤ length l → k + length (drop k l) ≡ length l
   drop_rest l zero le = let z : 0 + length l ≡ length l = omega arith in z
   drop_rest [] (suc k) le = absurd (omega arith)

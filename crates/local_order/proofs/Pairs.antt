@@ -1,11 +1,11 @@
 -- A test of all pairs of exponents answers for each place.
--- So it decides divisibility, and whether two monomials are coprime.
-use Rattle.std.proofs.Common.{◌≡◌, ℕ, ◌<◌, ◌≤◌, ◌⊎◌, ◌↔◌, ◌≢◌, List, length, get_or, Bool, true, false, IsTrue, MatchBool, refl, inl, inr, subst, arith}
+-- So it decides whether two monomials are coprime.
+use Rattle.std.proofs.Common.{◌≡◌, ℕ, ◌<◌, ◌⊎◌, ◌↔◌, ◌≢◌, List, length, get_or, Bool, true, false, IsTrue, MatchBool, refl, inl, inr, subst, arith}
 use Rattle.std.specs.List.{zip, AllWithin, HoldsAt}
 use Rattle.std.proofs.lemmas.Bool.{false≢true}
 use Rattle.std.proofs.lemmas.Slice.Zip.{length-zip, get_or-zip}
-use Rattle.local_order.specs.Mono.{Divides, IsCoprime}
-use Rattle.local_order.proofs.Division.{Divides-from_places, places_from_Divides, IsCoprime-from_places, places_from_IsCoprime}
+use Rattle.local_order.specs.Mono.{IsCoprime}
+use Rattle.local_order.proofs.Division.{IsCoprime-from_places, places_from_IsCoprime}
 
 -- what a test of all pairs says of each place
 places_from_pairs : (Yes No : ℕ × ℕ → Type 0) (r : Bool) (a b : List ℕ) → length a ≡ length b →
@@ -15,16 +15,6 @@ places_from_pairs Yes No true a b e h = λ k l. subst Yes (get_or-zip a b k (0, 
 places_from_pairs Yes No false a b e h =
     let l : h.0 < length a = omega (arith, h.1, length-zip a b, e) in
     (h.0, l, subst No (get_or-zip a b h.0 (0, 0) l (omega (arith, e))) (h.2 (0, 0)))
-
--- the test whether each exponent is at most the other decides divisibility
-pub Divides_decided : (r : Bool) (a b : List ℕ) → length a ≡ length b →
-    MatchBool r (AllWithin (λ p. p.0 ≤ p.1) (zip a b) 0 (length (zip a b))) ((k : ℕ) × (k < length (zip a b)) × HoldsAt (λ p. p.1 < p.0) (zip a b) k) →
-    IsTrue r ↔ Divides a b
-Divides_decided r a b e h = go r (places_from_pairs (λ p. p.0 ≤ p.1) (λ p. p.1 < p.0) r a b e h)
-  where
-    go : (t : Bool) → MatchBool t ((k : ℕ) → k < length a → get_or a k 0 ≤ get_or b k 0) ((k : ℕ) × (k < length a) × (get_or b k 0 < get_or a k 0)) → IsTrue t ↔ Divides a b
-    go true each = (λ _. Divides-from_places a b e (λ k l. each k (omega (arith, e))), λ _. refl)
-    go false some = (λ f. absurd (false≢true f), λ d. absurd (omega (arith, some.2, places_from_Divides a b d some.0)))
 
 -- the test whether one of each two exponents is 0 decides whether the two are coprime
 pub IsCoprime_decided : (r : Bool) (a b : List ℕ) → length a ≡ length b →

@@ -11,10 +11,14 @@ impl Mono {
         requires { length self.now ≡ length other.now }
         ensures { IsTrue result ↔ Divides self.now other.now }
     {
-        self.exponents()
-            .iter()
-            .zip(other.exponents())
-            .all(|(a, b)| a <= b)
+        // all eight are compared, with no way out: that is a few instructions, and what lies behind the last variable is 0 in both
+        let mut is_divisor = true;
+        for i in 0..MAX_VARIABLES {
+            if self.exps[i] > other.exps[i] {
+                is_divisor = false;
+            }
+        }
+        is_divisor
     }
 
     /// Whether no variable occurs in both.
@@ -51,12 +55,15 @@ impl Mono {
         ensures value { IfSome result (λ m. m ≡ mono_times self.now other.now) }
     {
         let mut exps = [0; MAX_VARIABLES];
+        let mut is_stored = true;
         for i in 0..MAX_VARIABLES {
-            let sum = self.exps[i] + other.exps[i];
-            if sum > MAX_EXPONENT {
-                return None;
+            exps[i] = self.exps[i] + other.exps[i];
+            if exps[i] > MAX_EXPONENT {
+                is_stored = false;
             }
-            exps[i] = sum;
+        }
+        if !is_stored {
+            return None;
         }
         Some(Mono {
             exps,

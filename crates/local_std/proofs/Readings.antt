@@ -108,10 +108,11 @@ kinds_first (workers form count) parts = refl
 together_assoc : (a b c : Kinds) → together (together a b) c ≡ together a (together b c)
 together_assoc a b c = let n = append_assoc a.numbers b.numbers c.numbers in let p = append_assoc a.paths b.paths c.paths in let w = append_assoc a.counts b.counts c.counts in cc (n, p, w)
 
--- what is once with more behind it is once
+-- a list that has at most one member with more behind it has at most one
 fewer : {A : Type 0} (a b c : List A) → length (a ++ (b ++ c)) ≤ 1 → length (a ++ b) ≤ 1
 fewer a b c few = omega (arith, few, length-append a (b ++ c), length-append b c, length-append a b)
 
+-- what is said once with more behind it is said once
 pub once_before : (a b c : Kinds) → AreOnce (together a (together b c)) → AreOnce (together a b)
 once_before a b c once = record { numbers = fewer a.numbers b.numbers c.numbers once.numbers; paths = fewer a.paths b.paths c.paths once.paths; counts = fewer a.counts b.counts c.counts once.counts }
 

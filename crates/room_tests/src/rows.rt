@@ -1,9 +1,9 @@
 //! Rows that were worked out by hand, modulo 7 in x and y up to degree 4.
 
-ghost use Rattle.std.specs.Prelude.{◌≡◌, length, IfOk};
+ghost use Rattle.std.specs.Prelude.{◌≡◌, length, ◌<◌, IfOk, IfSome};
 ghost use Rattle.rank_algebra.specs.Rows.{IsRow};
 
-use crate::build::{Written, field, has_terms, poly};
+use crate::build::{Exponents, FALLING, Written, field, has_terms, poly};
 use mono_rank::RankTable;
 use prime_field::Field;
 use sparse_poly::Poly;
@@ -120,6 +120,99 @@ fn multiples(rt: HostRuntime) -> Result<(), Fail> {
     let mut copy = Row::zero(rt.alloc(), 15)?;
     let are = are_multiples(&table, &field(7)?, &f, &mut copy);
     assert!(rt; (has(&f, &[(1, 3), (4, 5), (5, 5), (10, 6)]), are) == (true, [true; 2]));
+    Ok(())
+}
+
+/// Whether x, y and y^4 times g are these multiples, whatever stood in the row, and x times 0 is 0.
+fn are_shifted(table: &RankTable, g: &Row, zero: &Row, copy: &mut Row) -> [bool; 4]
+    requires table { table.now ≡ record { variables = 2; degree = 4 } }
+    requires row { length g.now ≡ 15 }
+    requires zero { length zero.now ≡ 15 }
+    requires copy { length copy.old ≡ 15 }
+{
+    copy.set_shifted(table, 1, g);
+    let by_x = has(copy, &[(4, 1), (10, 4)]);
+    copy.set_shifted(table, 2, g);
+    let by_y = has(copy, &[(5, 1), (11, 4)]);
+    copy.set_shifted(table, 1, zero);
+    let of_zero = copy.is_zero();
+    copy.set_shifted(table, 14, g);
+    [by_x, by_y, of_zero, copy.is_zero()]
+}
+
+#[test]
+fn shifts(rt: HostRuntime) -> Result<(), Fail> {
+    let table = RankTable::new(rt.alloc(), 2, 4)?;
+    let g = row(rt.alloc(), &table, TAILED)?;
+    let zero = Row::zero(rt.alloc(), 15)?;
+    let mut copy = Row::zero(rt.alloc(), 15)?;
+    assert!(rt; are_shifted(&table, &g, &zero, &mut copy) == [true; 4]);
+    Ok(())
+}
+
+// a term of each degree up to 4 at each monomial
+const DENSE: &[Written] = &[
+    ([0, 0], 1),
+    ([1, 0], 2),
+    ([0, 1], 3),
+    ([2, 0], 4),
+    ([1, 1], 5),
+    ([0, 2], 6),
+    ([3, 0], 1),
+    ([2, 1], 2),
+    ([1, 2], 3),
+    ([0, 3], 4),
+    ([4, 0], 5),
+    ([3, 1], 6),
+    ([2, 2], 1),
+    ([1, 3], 2),
+    ([0, 4], 3),
+];
+
+/// The place among the monomials of degree at most 4 of the product of two of them.
+fn product(a: &Exponents, b: &Exponents) -> Option<usize>
+    ensures { IfSome result (λ k. k < 15) }
+{
+    let sum = [a[0].saturating_add(b[0]), a[1].saturating_add(b[1])];
+    FALLING.iter().position(|m| *m == sum)
+}
+
+/// Whether a row has the coefficients of DENSE at the products with a monomial, and 0 elsewhere.
+fn is_multiple(a: &Exponents, row: &Row) -> bool
+    requires { length row.now ≡ 15 }
+{
+    let mut wanted = [0; 15];
+    for (b, coef) in DENSE {
+        if let Some(k) = product(a, b) {
+            wanted[k] = *coef;
+        }
+    }
+    row.residues() == wanted.as_slice()
+}
+
+#[test]
+fn each_shift(rt: HostRuntime) -> Result<(), Fail> {
+    let table = RankTable::new(rt.alloc(), 2, 4)?;
+    let g = row(rt.alloc(), &table, DENSE)?;
+    let mut copy = Row::zero(rt.alloc(), 15)?;
+    for shift in 0..15 {
+        copy.set_shifted(&table, shift, &g);
+        assert!(rt;
+            is_multiple(&FALLING[shift as usize], &copy),
+            "by the monomial of rank {shift}"
+        );
+    }
+    Ok(())
+}
+
+#[test]
+fn rows_are_subtracted(rt: HostRuntime) -> Result<(), Fail> {
+    let table = RankTable::new(rt.alloc(), 2, 4)?;
+    let mut f = row(rt.alloc(), &table, CUT)?;
+    let g = row(rt.alloc(), &table, TAILED)?;
+    f.sub_row(&field(7)?, 2, &g);
+    // 3x + 5y^2 less 2y + 8x^3 + 2x^4
+    assert!(rt; has(&f, &[(1, 3), (2, 5), (5, 5), (6, 6), (10, 5)]));
     Ok(())
 }
 

@@ -1,4 +1,4 @@
-use Rattle.std.proofs.Common.{◌≤◌, refl, sym, arith}
+use Rattle.std.proofs.Common.{ℕ, ◌+◌, ◌<◌, ◌≤◌, get_or, MatchBool, refl, sym, subst, arith}
 use Rattle.std.proofs.lemmas.List.Elements.{All-same, All-take}
 use Rattle.std.proofs.lemmas.Bool.{false≢true}
 use Rattle.local_order.specs.Mono.{mono_times}
@@ -6,14 +6,15 @@ use Rattle.local_order.proofs.Places.{get_or-mono_times}
 use Rattle.local_order.proofs.Stored.{All-small_at, view_at, total_small, both_stored, product_is, product_stored}
 use Rattle.local_order.proofs.mono.Mono.times.Goals as goal
 
-pub returns-then-sum-gt-MAX_EXPONENT-clause-some : goal.returns-then-sum-gt-MAX_EXPONENT-clause-some
-returns-then-sum-gt-MAX_EXPONENT-clause-some c =
-    let i = c.loop-i.i in
+-- where a sum is too great, the product has it
+pub returns-then-not-is_stored-clause-some : goal.returns-then-not-is_stored-clause-some
+returns-then-not-is_stored-clause-some c =
     let product = mono_times c.args.self.now c.args.other.now in
-    let here = get_or-mono_times c.args.self.now c.args.other.now i in
-    let mine = view_at c.self.invariant c.self.view_is i in
-    let its = view_at c.other.invariant c.other.view_is i in
-    (λ e. absurd (false≢true e), λ small. absurd (omega (arith, All-small_at product small i, here, mine, its)))
+    let great = subst (λ t. MatchBool t ((k : ℕ) → k < c.loop-i.i → get_or c.self.inside.exps k 0 + get_or c.other.inside.exps k 0 ≤ 1000) ((k : ℕ) × (1000 < get_or c.self.inside.exps k 0 + get_or c.other.inside.exps k 0))) c.if-not-is_stored.true c.loop-i.invariant.small in
+    let here = get_or-mono_times c.args.self.now c.args.other.now great.0 in
+    let mine = view_at c.self.invariant c.self.view_is great.0 in
+    let its = view_at c.other.invariant c.other.view_is great.0 in
+    (λ e. absurd (false≢true e), λ small. absurd (omega (arith, All-small_at product small great.0, great.1, here, mine, its)))
 
 pub overflow_add-result : goal.overflow_add-result
 overflow_add-result c = omega (arith, total_small c.self.invariant, total_small c.other.invariant)
@@ -22,7 +23,8 @@ pub invariant_of-result : goal.invariant_of-result
 invariant_of-result c =
     let inv = c.loop-i.invariant in
     let both = both_stored c.self.invariant c.self.view_is c.other.invariant c.other.view_is c.requires in
-    product_stored c.loop-i.exps both inv.full (λ k i. inv.sums k (omega arith)) (λ k i. omega (arith, inv.sums k (omega arith), inv.small k (omega arith)))
+    let small = subst (λ t. MatchBool t ((k : ℕ) → k < c.loop-i.i → get_or c.self.inside.exps k 0 + get_or c.other.inside.exps k 0 ≤ 1000) ((k : ℕ) × (1000 < get_or c.self.inside.exps k 0 + get_or c.other.inside.exps k 0))) c.if-not-is_stored.false inv.small in
+    product_stored c.loop-i.exps both inv.full (λ k i. inv.sums k (omega (arith, i, c.loop-i-test.false))) (λ k i. omega (arith, inv.sums k (omega (arith, i, c.loop-i-test.false)), small k (omega (arith, i, c.loop-i-test.false))))
 
 pub returns-clause-value : goal.returns-clause-value
 returns-clause-value c =
