@@ -194,8 +194,8 @@ fn is_multiple(a: &Exponents, row: &Row) -> bool
 fn each_shift(rt: HostRuntime) -> Result<(), Fail> {
     let table = RankTable::new(rt.alloc(), 2, 4)?;
     let g = row(rt.alloc(), &table, DENSE)?;
-    let mut copy = Row::zero(rt.alloc(), 15)?;
     for shift in 0..15 {
+        let mut copy = Row::zero(rt.alloc(), 15)?;
         copy.set_shifted(&table, shift, &g);
         assert!(rt;
             is_multiple(&FALLING[shift as usize], &copy),

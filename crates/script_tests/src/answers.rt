@@ -286,63 +286,46 @@ fn repeated(
     Ok(script)
 }
 
-#[test]
-fn limits(rt: HostRuntime) -> Result<(), Fail> {
-    let alloc = rt.alloc();
-
-    // the 33rd parenthesis, the 65th generator and the 65th command
-    let deep = repeated(
-        alloc,
+/// Scripts that have a piece so many times between two others, which is once too often, and how each is refused.
+const ONE_TOO_MANY: &[(&[u8], &[u8], u32, &[u8], &[u8])] = &[
+    (
         b"ring r=32003,(x,y),ds;\nnoether=x^5;\npoly f=",
         b"(",
         33,
         b"\n",
-    )?;
-    assert!(rt;
-        is_answered(
-            &rt,
-            alloc,
-            &deep,
-            Status::Input,
-            b"line 3 column 40: too deep\n"
-        )?
-    );
-    let members = repeated(
-        alloc,
+        b"line 3 column 40: too deep\n",
+    ),
+    (
         b"ring r=32003,(x,y),ds;\nnoether=x^5;\nideal i=x",
         b",x",
         64,
         b";\n",
-    )?;
-    assert!(rt;
-        is_answered(
-            &rt,
-            alloc,
-            &members,
-            Status::Input,
-            b"line 3 column 137: too many generators\n"
-        )?
-    );
-    let commands = repeated(
-        alloc,
+        b"line 3 column 137: too many generators\n",
+    ),
+    (
         b"ring r=32003,(x,y),ds;\nnoether=x^5;\nideal i=x;\n",
         b"vdim(i);\n",
         65,
         b"",
-    )?;
-    assert!(rt;
-        is_answered(
-            &rt,
-            alloc,
-            &commands,
-            Status::Input,
-            b"line 68 column 1: too many commands\n"
-        )?
-    );
+        b"line 68 column 1: too many commands\n",
+    ),
+];
 
-    // a numeral of 1 and a hundred thousand zeros, which is 1 modulo 11
-    let numeral = repeated(
-        alloc,
+#[test]
+fn limits(rt: HostRuntime) -> Result<(), Fail> {
+    let alloc = rt.alloc();
+    for (before, piece, count, after, refusal) in ONE_TOO_MANY {
+        let script = repeated(alloc, before, piece, *count, after)?;
+        assert!(rt; is_answered(&rt, alloc, &script, Status::Input, refusal)?);
+    }
+    Ok(())
+}
+
+#[test]
+fn a_long_numeral(rt: HostRuntime) -> Result<(), Fail> {
+    // 1 and a hundred thousand zeros, which is 1 modulo 11
+    let script = repeated(
+        rt.alloc(),
         b"ring r=11,(x),ds;\nnoether=x^2;\nideal i=1",
         b"0",
         100_000,
@@ -351,8 +334,8 @@ fn limits(rt: HostRuntime) -> Result<(), Fail> {
     assert!(rt;
         is_answered(
             &rt,
-            alloc,
-            &numeral,
+            rt.alloc(),
+            &script,
             Status::Fits,
             b"1 std i\n_[1]=x\ncorner 1\ndim 1\n"
         )?
