@@ -8,6 +8,7 @@ use crate::watched::Watched;
 use run_core::Event;
 use std::alloc::Global;
 use std::test::Fail;
+use std::thread::Threads;
 
 /// How many events are drawn in a schedule, before each seat in turn is carried on to its end.
 const DRAWN: u32 = 60;
@@ -185,13 +186,19 @@ fn run(core: &mut Watched, dice: &mut Dice, workers: u32) -> Result<(), Fail>
 }
 
 /// Random schedules for an ideal, each of which has to leave its reduced basis.
-fn run_all(alloc: Global, ideal: &Ideal, dice: &mut Dice, count: u32) -> Result<(), Fail> {
+fn run_all<R: Threads + Sync>(
+    rt: &R,
+    alloc: Global,
+    ideal: &Ideal,
+    dice: &mut Dice,
+    count: u32,
+) -> Result<(), Fail> {
     let problem = ideal.problem(alloc)?;
     for i in 0..count {
         let workers = i % 16 + 1;
         let mut core = Watched::open(alloc, &problem, workers)?;
         run(&mut core, dice, workers)?;
-        let basis = core.basis(alloc)?;
+        let basis = core.basis(rt, alloc)?;
         if !ideal.has_basis(alloc, &basis)? {
             return Err("another basis")?;
         }
@@ -203,7 +210,7 @@ fn run_all(alloc: Global, ideal: &Ideal, dice: &mut Dice, count: u32) -> Result<
 fn every_schedule_leaves_the_basis(rt: HostRuntime) -> Result<(), Fail> {
     let mut dice = Dice::new(88172645463325252);
     for ideal in &IDEALS {
-        run_all(rt.alloc(), ideal, &mut dice, 1667)?;
+        run_all(&rt, rt.alloc(), ideal, &mut dice, 1667)?;
     }
     Ok(())
 }

@@ -12,6 +12,7 @@ use sparse_poly::{Polys, Problem};
 use std::alloc::{AllocError, Global};
 use std::marker::Model;
 use std::test::Fail;
+use std::thread::Threads;
 use tail_reduce::reduced;
 
 /// A problem and the machine of some workers. A contract sees the state of the machine.
@@ -86,12 +87,12 @@ impl Trial {
     }
 
     /// The reduced basis by the entries, which have to settle every ticket.
-    pub fn basis(&mut self, alloc: Global) -> Result<Polys, Fail> {
+    pub fn basis<R: Threads + Sync>(&mut self, rt: &R, alloc: Global) -> Result<Polys, Fail> {
         if !self.is_done()? {
             return Err("a ticket isn't settled")?;
         }
         let table = table_of(alloc, &self.problem)?;
-        Ok(reduced(alloc, &self.problem, &table, self.core.entries())?)
+        Ok(reduced(rt, alloc, &self.problem, &table, self.core.entries())?)
     }
 }
 

@@ -8,6 +8,7 @@ use run_core::Event;
 use sparse_poly::{Polys, Problem};
 use std::alloc::{AllocError, Global};
 use std::test::Fail;
+use std::thread::Threads;
 
 /// A machine with the corner and the ticket number that were seen last, the leads of the entries by rank, and for each name the ticket
 /// that its seat claimed last.
@@ -134,8 +135,8 @@ impl Watched {
     }
 
     /// The reduced basis by the entries, which have to settle every ticket.
-    pub fn basis(&mut self, alloc: Global) -> Result<Polys, Fail> {
-        self.trial.basis(alloc)
+    pub fn basis<R: Threads + Sync>(&mut self, rt: &R, alloc: Global) -> Result<Polys, Fail> {
+        self.trial.basis(rt, alloc)
     }
 }
 

@@ -14,6 +14,7 @@ use sparse_poly::{Poly, PolyTerm, Polys, Problem};
 use std::alloc::{AllocError, Global};
 use std::cmp::Ordering;
 use std::test::Fail;
+use std::thread::Threads;
 use tail_reduce::reduced;
 use workers::OpenGate;
 
@@ -39,12 +40,17 @@ fn table_of(alloc: Global, problem: &Problem) -> Result<RankTable, AllocError>
 }
 
 /// The reduced basis by entries that settle every ticket.
-fn basis(alloc: Global, problem: &Problem, entries: &Entries) -> Result<Polys, AllocError>
+fn basis<R: Threads + Sync>(
+    rt: &R,
+    alloc: Global,
+    problem: &Problem,
+    entries: &Entries,
+) -> Result<Polys, AllocError>
     requires legal { Legal problem.now entries.now }
     requires settled { SettlesAll problem.now entries.now }
 {
     let table = table_of(alloc, problem)?;
-    reduced(alloc, problem, &table, entries)
+    reduced(rt, alloc, problem, &table, entries)
 }
 
 fn has_reads(reads: &Reads, wanted: &Reads) -> bool {
@@ -117,10 +123,10 @@ fn any_number_of_workers_leaves_the_plain_basis(rt: HostRuntime) -> Result<(), F
     for (d, gens) in EXAMPLES {
         let problem = problem(rt.alloc(), *d, gens)?;
         let alone = plain(rt.alloc(), &problem)?;
-        let wanted = basis(rt.alloc(), &problem, &alone.entries)?;
+        let wanted = basis(&rt, rt.alloc(), &problem, &alone.entries)?;
         for workers in [1, 2, 8, 16] {
             let done = solve(&rt, rt.alloc(), &problem, workers, &OpenGate)?;
-            let made = basis(rt.alloc(), &problem, &done.entries)?;
+            let made = basis(&rt, rt.alloc(), &problem, &done.entries)?;
             assert!(rt;
                 has_polys(&made, &wanted),
                 "{workers} workers, modulo degree {d} + 1"

@@ -48,12 +48,17 @@ pub fn answer_of<R: Threads + Sync, G: Gate>(
     let mut crew = Crew::open(alloc, problem, workers)?;
     run_rounds(rt, &mut crew, gate);
     let finished = crew.finish(alloc)?;
-    let answer = answer_by(alloc, problem, &finished.entries)?;
+    let answer = answer_by(rt, alloc, problem, &finished.entries)?;
     Ok((finished, answer))
 }
 
 /// The answer by legal entries that settle every ticket.
-fn answer_by(alloc: Global, problem: &Problem, entries: &Entries) -> Result<Answer, AllocError>
+fn answer_by<R: Threads + Sync>(
+    rt: &R,
+    alloc: Global,
+    problem: &Problem,
+    entries: &Entries,
+) -> Result<Answer, AllocError>
     requires legal { Legal problem.now entries.now }
     requires settled { AllSettled problem.now entries.now }
     ensures value { IfOk result (λ a. IsAnswerOf problem.now a) }
@@ -69,7 +74,7 @@ fn answer_by(alloc: Global, problem: &Problem, entries: &Entries) -> Result<Answ
             missing: table.mono(rank),
         }),
         None => Ok(Answer::Fits {
-            basis: reduced(alloc, problem, &table, entries)?,
+            basis: reduced(rt, alloc, problem, &table, entries)?,
             stair: Monos::from_vec(monomials(alloc, &table, stair.list().as_slice())?),
         }),
     }

@@ -11,6 +11,7 @@ use prime_field::Field;
 use sparse_poly::{Poly, Polys, Problem};
 use std::alloc::{AllocError, Global};
 use std::test::Fail;
+use std::thread::Threads;
 use tail_reduce::reduced;
 
 /// x - x^2 - y^3.
@@ -72,16 +73,16 @@ fn entries(alloc: Global) -> Result<Entries, AllocError>
 }
 
 /// The reduced basis.
-fn basis(alloc: Global) -> Result<Polys, Fail> {
+fn basis<R: Threads + Sync>(rt: &R, alloc: Global) -> Result<Polys, Fail> {
     let problem = problem(alloc)?;
     let table = RankTable::new(alloc, 2, 4)?;
     let entries = entries(alloc)?;
-    Ok(reduced(alloc, &problem, &table, &entries)?)
+    Ok(reduced(rt, alloc, &problem, &table, &entries)?)
 }
 
 #[test]
 fn tails_are_reduced(rt: HostRuntime) -> Result<(), Fail> {
-    let basis = basis(rt.alloc())?;
+    let basis = basis(&rt, rt.alloc())?;
     assert!(rt; are_same(&basis, &[&[([1, 0], 1)], &[([0, 3], 1)]]));
     Ok(())
 }

@@ -10,6 +10,7 @@ use prime_field::Field;
 use sparse_poly::{Poly, Polys, Problem};
 use std::alloc::{AllocError, Global};
 use std::test::Fail;
+use std::thread::Threads;
 use tail_reduce::reduced;
 
 /// 2*x*y^2 + 5*x^4.
@@ -77,11 +78,11 @@ fn entries(alloc: Global) -> Result<Entries, AllocError>
 }
 
 /// The reduced basis.
-fn basis(alloc: Global) -> Result<Polys, Fail> {
+fn basis<R: Threads + Sync>(rt: &R, alloc: Global) -> Result<Polys, Fail> {
     let problem = problem(alloc)?;
     let table = RankTable::new(alloc, 2, 6)?;
     let entries = entries(alloc)?;
-    Ok(reduced(alloc, &problem, &table, &entries)?)
+    Ok(reduced(rt, alloc, &problem, &table, &entries)?)
 }
 
 const BASIS: &[&[Written]] = &[
@@ -93,7 +94,7 @@ const BASIS: &[&[Written]] = &[
 
 #[test]
 fn leads_fall(rt: HostRuntime) -> Result<(), Fail> {
-    let basis = basis(rt.alloc())?;
+    let basis = basis(&rt, rt.alloc())?;
     assert!(rt; are_same(&basis, BASIS));
     Ok(())
 }

@@ -5,18 +5,15 @@ use Rattle.std.proofs.lemmas.List.{get_or-map, length-map}
 use Rattle.std.proofs.lemmas.List.Elements.{All-from_get_or}
 use Rattle.local_order.specs.Shape.{count}
 use Rattle.sparse_poly.specs.Shape.{shape_of}
-use Rattle.sparse_poly.specs.Poly.{Polynomial, in_variables}
+use Rattle.sparse_poly.specs.Poly.{Polynomial}
 use Rattle.sparse_poly.specs.Ideal.{Problem}
 use Rattle.entry_code.specs.Entry.{Entry}
 use Rattle.mora_law.specs.Ring.{numbering_of, ranks_of_problem}
 use Rattle.mora_law.specs.Entries.{terms_of, basis_of, poly_of_terms}
 use Rattle.mora_law.specs.Basis.{tidied, minimal_with, plain_basis, basis}
 use Rattle.tail_reduce.specs.Divisors.{minimal_places}
+use Rattle.tail_reduce.specs.Members.{member_of}
 use Rattle.tail_reduce.proofs.Searching.{filter_then}
-
--- the member at a place
-abbrev pub member_of : Problem → List Entry → ℕ → Polynomial
-member_of P entries k = in_variables P.n (poly_of_terms P (terms_of (ranks_of_problem P) (tidied (ranks_of_problem P) (basis_of entries) k)))
 
 -- the basis goes over the minimal places
 as_places : (P : Problem) (entries : List Entry) → plain_basis (ranks_of_problem P) (basis_of entries)

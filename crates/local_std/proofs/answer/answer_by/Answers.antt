@@ -7,7 +7,7 @@ use Rattle.local_std.proofs.Settled.{Showing, missing, fits, staircase}
 use Rattle.local_std.proofs.answer.answer_by.Goals as goal
 
 pub returns-in-Some-clause-value : goal.returns-in-Some-clause-value
-returns-in-Some-clause-value c =
+returns-in-Some-clause-value g c =
     let P = c.args.problem.now in
     let showing : Showing P c.args.entries.now c.in_ok-table.table c.in_ok-leads.leads.items c.in_ok-stair.stair = record {
       table_is = c.in_ok-table.ensures;
@@ -19,7 +19,7 @@ returns-in-Some-clause-value c =
     c.in-Some.rank c.mono.result c.in-Some.ensures c.mono.ensures
 
 pub returns-clause-value : goal.returns-clause-value
-returns-clause-value c =
+returns-clause-value g c =
     let P = c.args.problem.now in
     let problem : IsProblem P = c.field-field.ensures.problem in
     let entries = c.args.entries.now in
@@ -39,6 +39,6 @@ returns-clause-value c =
     (fits P problem entries legal settled table leads s showing c.in-None.ensures, c.in_ok-reduced-in-None.ensures.basis, staircase P problem entries legal settled table leads s showing c.from_vec.result monos)
 
 pub returns-clause-ring : goal.returns-clause-ring
-returns-clause-ring c =
-    let answer = returns-clause-value c in
+returns-clause-ring g c =
+    let answer = returns-clause-value g c in
     (basis_in_ring c.args.problem.now c.in_ok-reduced-in-None.field-0 answer.1 c.in_ok-reduced-in-None.ensures.variables, staircase_in_ring c.args.problem.now c.from_vec.result answer.2)
