@@ -19,10 +19,10 @@ settled_for : (P Q : Problem) (es : List Entry) → P ≡ Q → SettlesAll P es 
 settled_for P Q es same settled = λ item t l. inl (subst (λ (R : Problem). SettlesAll R es) same settled item t l)
 
 pub answer_by-requires-clause-legal : goal.answer_by-requires-clause-legal
-answer_by-requires-clause-legal g c = legal_for _ _ c.in_ok-finished.finished.entries (problem_of _ _ _ c.run_rounds.ensures.board c.in_ok-crew.ensures.setting) c.in_ok-finished.ensures.legal
+answer_by-requires-clause-legal g c = λ κs lives. legal_for _ _ c.in_ok-finished.finished.entries (problem_of _ _ _ c.run_rounds.ensures.board c.in_ok-crew.ensures.setting) c.in_ok-finished.ensures.legal
 
 pub answer_by-requires-clause-settled : goal.answer_by-requires-clause-settled
-answer_by-requires-clause-settled g c = settled_for _ _ c.in_ok-finished.finished.entries (problem_of _ _ _ c.run_rounds.ensures.board c.in_ok-crew.ensures.setting) c.in_ok-finished.ensures.settled
+answer_by-requires-clause-settled g c = λ κs lives. settled_for _ _ c.in_ok-finished.finished.entries (problem_of _ _ _ c.run_rounds.ensures.board c.in_ok-crew.ensures.setting) c.in_ok-finished.ensures.settled
 
 pub returns-clause-legal : goal.returns-clause-legal
 returns-clause-legal g c = legal_for _ _ c.in_ok-finished.finished.entries (problem_of _ _ _ c.run_rounds.ensures.board c.in_ok-crew.ensures.setting) c.in_ok-finished.ensures.legal

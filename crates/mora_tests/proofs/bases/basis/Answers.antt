@@ -7,9 +7,9 @@ use Rattle.mora_law.proofs.Examples.{intermediate_legal, intermediate_settled}
 use Rattle.mora_tests.proofs.bases.basis.Goals as goal
 
 pub reduced-requires-clause-legal : goal.reduced-requires-clause-legal
-reduced-requires-clause-legal g c =
+reduced-requires-clause-legal g c = λ κs lives.
     subst (λ (P : Problem). Legal P c.in_ok-entries.entries) (sym c.in_ok-problem.ensures) (subst (Legal kept_problem) (sym c.in_ok-entries.ensures) intermediate_legal)
 
 pub reduced-requires-clause-settled : goal.reduced-requires-clause-settled
-reduced-requires-clause-settled g c =
+reduced-requires-clause-settled g c = λ κs lives.
     subst (λ (P : Problem). AllSettled P c.in_ok-entries.entries) (sym c.in_ok-problem.ensures) (subst (AllSettled kept_problem) (sym c.in_ok-entries.ensures) intermediate_settled)
