@@ -9,7 +9,7 @@ mod build;
 mod cubics;
 #[cfg(test)]
 mod curve;
-#[cfg(test)]
+// definitions name the desk, and they are read without the tests too
 mod desk;
 #[cfg(test)]
 mod late_tickets;
