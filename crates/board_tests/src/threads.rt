@@ -164,9 +164,19 @@ fn alone(seat: &BoardSeat)
     ensures { Sits [] None seat.now.view }
 {}
 
+/// How often a generator stands in the order.
+fn times(order: &[u32], generator: u32) -> usize {
+    order.iter().filter(|g| **g == generator).count()
+}
+
 /// Whether each of the first generators stands once in the order.
 fn is_order(order: &[u32], all: u32) -> bool {
-    order.len() == all as usize && (0..all).all(|g| order.iter().filter(|x| **x == g).count() == 1)
+    for generator in 0..all {
+        if times(order, generator) != 1 {
+            return false;
+        }
+    }
+    order.len() == all as usize
 }
 
 /// Whether a seat that has read the whole list knows so many entries, each of another generator, and there is no other.

@@ -120,16 +120,36 @@ fn first_learns(board: &SharedBoard, first: &mut BoardSeat, desk: &mut Desk) -> 
     Ok(second_is && is_cube(&desk.room, 0, 0))
 }
 
+/// Each worker takes a ticket and reads the corner, before the first publishes.
+fn both_read(
+    alloc: Global,
+    board: &SharedBoard,
+    first: &mut BoardSeat,
+    second: &mut BoardSeat,
+) -> Result<(), Fail>
+    requires problem { board.now.setting.problem ≡ cubes }
+    requires first_board { IsAt board.now first.old }
+    requires second_board { IsAt board.now second.old }
+    requires first { Sits [] None first.old.view }
+    requires second { Sits [] None second.old.view }
+    ensures first_board { IsAt board.now first.new }
+    ensures second_board { IsAt board.now second.new }
+    ensures first { OnOk result (Sits (made_cube 0 0 ∷ []) (marked (Some (once_read 0 0))) first.new.view) }
+    ensures second { OnOk result (Sits [] (Some (once_read 1 0)) second.new.view) }
+{
+    first_ticket(board, first)?;
+    second_ticket(board, second)?;
+    read(board, first, 0)?;
+    read(board, second, 1)?;
+    first_entry(alloc, board, first)
+}
+
 #[test]
 fn each_learns_what_the_other_published(rt: HostRuntime) -> Result<(), Fail> {
     let alloc = rt.alloc();
     let (board, mut first, mut second) = open(alloc)?;
     let mut desk = Desk::new(alloc, &board)?;
-    first_ticket(&board, &mut first)?;
-    second_ticket(&board, &mut second)?;
-    read(&board, &mut first, 0)?;
-    read(&board, &mut second, 1)?;
-    first_entry(alloc, &board, &mut first)?;
+    both_read(alloc, &board, &mut first, &mut second)?;
     second_learns(alloc, &board, &mut second, &mut desk)?;
     second_entry(alloc, &board, &mut second, &mut desk)?;
     assert!(rt;
