@@ -1,10 +1,8 @@
 //! Runs that were worked out by hand, modulo 32003.
 
-use crate::problems::{Written, field};
-use crate::trial::{Trial, entry};
+use crate::problems::Written;
+use crate::trial::Trial;
 use entry_code::{Entry, Item};
-use mono_rank::RankTable;
-use mora_form::Mora;
 use mora_law::StepEnd;
 use std::alloc::Global;
 use std::test::Fail;
@@ -222,19 +220,12 @@ const REFUSED: &[Pairs] = &[
     &[(3, 2), (4, 1)],
 ];
 
-/// Whether an entry with these terms is accepted.
-fn accepts(alloc: Global, mora: &Mora, terms: Pairs) -> Result<bool, Fail> {
-    let entry = entry(alloc, 15, terms)?;
-    Ok(mora.accepts(&entry))
-}
-
 #[test]
 fn only_monic_entries_are_accepted(rt: HostRuntime) -> Result<(), Fail> {
-    let table = RankTable::new(rt.alloc(), 2, 4)?;
-    let mora = Mora::open(rt.alloc(), &table, field()?)?;
+    let trial = Trial::of(rt.alloc(), 2, 4, &[])?;
     for terms in REFUSED {
-        assert!(rt; !accepts(rt.alloc(), &mora, terms)?);
+        assert!(rt; !trial.accepts(rt.alloc(), terms)?);
     }
-    assert!(rt; accepts(rt.alloc(), &mora, &[(3, 1), (4, 32002), (14, 1)])?);
+    assert!(rt; trial.accepts(rt.alloc(), &[(3, 1), (4, 32002), (14, 1)])?);
     Ok(())
 }

@@ -48,6 +48,11 @@ impl Trial {
         })
     }
 
+    /// Whether the entry with these ranks and coefficients may be learnt.
+    pub fn accepts(&self, alloc: Global, terms: &[(u32, u32)]) -> Result<bool, Fail> {
+        Ok(self.mora.accepts(&entry(alloc, self.table.count(), terms)?))
+    }
+
     /// Learns the entry with these ranks and coefficients.
     pub fn learn(&mut self, alloc: Global, terms: &[(u32, u32)]) -> Result<(), Fail> {
         let entry = entry(alloc, self.table.count(), terms)?;
@@ -96,7 +101,7 @@ impl Trial {
 }
 
 /// The entry with these ranks and coefficients.
-pub fn entry(alloc: Global, n_ranks: u32, terms: &[(u32, u32)]) -> Result<Entry, Fail> {
+fn entry(alloc: Global, n_ranks: u32, terms: &[(u32, u32)]) -> Result<Entry, Fail> {
     let mut entry = Entry::room(alloc, n_ranks)?;
     for (rank, coef) in terms {
         entry.terms.push(Term {

@@ -83,48 +83,45 @@ fn entries(rt: HostRuntime) -> Result<(), Fail> {
 const WORDS: [u64; 7] = [1, 3, 1, 65551, 65551, 65551, 38654705665];
 
 #[test]
-fn words(rt: HostRuntime) -> Result<(), Fail> {
-    let field = field(32003)?;
+fn words_of_an_entry(rt: HostRuntime) -> Result<(), Fail> {
     let mut entry = Entry::room(rt.alloc(), 15)?;
-    assert!(rt; read_words(&WORDS, &field, 15, &mut entry));
+    assert!(rt; read_words(&WORDS, &field(32003)?, 15, &mut entry));
     assert!(rt; entry.reads.len() == 3 && entry.terms.len() == 1);
     let (reading, term) = (entry.reads.get(2), entry.terms.get(0));
     assert!(rt; (reading.known, reading.corner, term.rank, term.coef) == (1, 15, 9, 1));
     assert!(rt; word_count(&entry) == 7);
     let same = word_at(&entry, 0) == WORDS[0] && word_at(&entry, 2) == WORDS[2];
     assert!(rt; same && word_at(&entry, 5) == WORDS[5] && word_at(&entry, 6) == WORDS[6]);
-    assert!(rt;
-        !read_words(
-            &[1, 4, 1, 65551, 65551, 65551, 38654705665],
-            &field,
-            15,
-            &mut entry
-        )
-    );
-    assert!(rt;
-        !read_words(
-            &[1, 3, 1, 65551, 65551, 65551, 38654705665, 0],
-            &field,
-            15,
-            &mut entry
-        )
-    );
-    assert!(rt;
-        !read_words(
-            &[1, 1, 2, 65551, 38654705665, 12884901890],
-            &field,
-            15,
-            &mut entry
-        )
-    );
-    assert!(rt;
-        read_words(
-            &[4294967297, 1, 1, 65551, 38654705665],
-            &field,
-            15,
-            &mut entry
-        )
-    );
+    Ok(())
+}
+
+#[test]
+fn words_of_a_pair(rt: HostRuntime) -> Result<(), Fail> {
+    let mut entry = Entry::room(rt.alloc(), 15)?;
+    let words = [4294967297, 1, 1, 65551, 38654705665];
+    assert!(rt; read_words(&words, &field(32003)?, 15, &mut entry));
     assert!(rt; entry.item == Item::Pair(0, 1));
+    Ok(())
+}
+
+// a reading more than there are words, a word too many, and ranks that fall
+const NO_SPELLING: &[&[u64]] = &[
+    &[1, 4, 1, 65551, 65551, 65551, 38654705665],
+    &[1, 3, 1, 65551, 65551, 65551, 38654705665, 0],
+    &[1, 1, 2, 65551, 38654705665, 12884901890],
+];
+
+/// Whether these are the words of an entry modulo 32003, where there are 15 monomials.
+fn is_spelling(alloc: Global, words: &[u64]) -> Result<bool, Fail> {
+    let mut entry = Entry::room(alloc, 15)?;
+    Ok(read_words(words, &field(32003)?, 15, &mut entry))
+}
+
+#[test]
+fn words_that_are_no_spelling(rt: HostRuntime) -> Result<(), Fail> {
+    for words in NO_SPELLING {
+        assert!(rt; !is_spelling(rt.alloc(), words)?);
+    }
+    assert!(rt; is_spelling(rt.alloc(), &WORDS)?);
     Ok(())
 }
